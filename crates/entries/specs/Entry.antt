@@ -1,0 +1,96 @@
+-- 01, "Sizes and layout": an entry, its two words, and when it is well formed. All are over the code's `Entry`, a record of the five
+-- fields; `address` is word 1: the guest's address, or where FIXED the leaf's.
+use mathlib.Core.Bool.{Bool, true, false, not}
+use Prim.Native.Nat.{ℕ, _+_, _*_, _/_, _%_}
+use lib.Dec.{leb, ltb, eqb}
+use Rattle.words.specs.Choice.{pick, _and_, _or_}
+use Rattle.entries.specs.declared.entry.Entry.{Entry}
+use Rattle.entries.specs.declared.entry.Decoded.{Decoded}
+use Rattle.entries.specs.declared.entry.Decoded.the-variants.{Good, Bad}
+use Rattle.entries.specs.declared.entry.Words.{Words}
+
+-- "Types: SHARED 0, PRIVATE 1, MERGEABLE 2, LEAF 3."
+abbrev pub SHARED : ℕ
+SHARED = 0
+
+abbrev pub PRIVATE : ℕ
+PRIVATE = 1
+
+abbrev pub MERGEABLE : ℕ
+MERGEABLE = 2
+
+abbrev pub LEAF : ℕ
+LEAF = 3
+
+-- "Addresses are multiples of 4,096 below 2^52."
+unfoldable pub isAddress : ℕ → Bool
+isAddress a = eqb (a % 4096) 0 and ltb a 4503599627370496
+
+-- types of pages that belong to a guest, and to none
+unfoldable pub isOwned : ℕ → Bool
+isOwned kind = eqb kind PRIVATE or eqb kind MERGEABLE
+
+unfoldable pub isUnowned : ℕ → Bool
+isUnowned kind = eqb kind SHARED or eqb kind LEAF
+
+-- an entry from its fields, in the words' order; and the entry of two zero words
+unfoldable pub entry : ℕ → ℕ → Bool → Bool → ℕ → Entry
+entry asid kind validated fixed address =
+    record { asid = asid; kind = kind; validated = validated; fixed = fixed; address = address }
+
+unfoldable pub unowned : Entry
+unowned = entry 0 SHARED false false 0
+
+-- "SHARED and LEAF have ASID 0 .. PRIVATE and MERGEABLE have ASID 1 to 511"
+unfoldable pub asidFits : Entry → Bool
+asidFits e = (isUnowned (e .kind) and eqb (e .asid) 0) or (isOwned (e .kind) and leb 1 (e .asid) and leb (e .asid) 511)
+
+-- ".. both flags 0 .. PRIVATE is never FIXED; FIXED needs VALIDATED"
+unfoldable pub flagsFit : Entry → Bool
+flagsFit e =
+    (isUnowned (e .kind) and not (e .validated) and not (e .fixed))
+    or (isOwned (e .kind) and (not (e .fixed) or (eqb (e .kind) MERGEABLE and (e .validated))))
+
+-- ".. word 1 zero .. an address in word 1 .. and then word 1 is the address of a frame below N, the leaf"
+unfoldable pub addressFits : ℕ → Entry → Bool
+addressFits n e =
+    (isUnowned (e .kind) and eqb (e .address) 0)
+    or (isOwned (e .kind) and isAddress (e .address) and (not (e .fixed) or ltb (e .address / 4096) n))
+
+-- "Well formed", in a table of n frames
+unfoldable pub wellFormed : ℕ → Entry → Bool
+wellFormed n e = asidFits e and flagsFit e and addressFits n e
+
+-- "Entry, word 0: bits 15:0 ASID, 17:16 TYPE, 18 VALIDATED, 19 FIXED, the rest zero. Word 1: GPA."
+unfoldable pub fields : ℕ → ℕ → Entry
+fields word0 word1 =
+    entry (word0 % 65536) (word0 / 65536 % 4) (eqb (word0 / 262144 % 2) 1) (eqb (word0 / 524288 % 2) 1) word1
+
+-- the entry that two words hold, in a table of n frames, or bad
+unfoldable pub decoded : ℕ → ℕ → ℕ → Decoded
+decoded n word0 word1 =
+    pick (eqb (word0 / 1048576) 0 and wellFormed n (fields word0 word1)) (Good (fields word0 word1)) Bad
+
+-- the two words of an entry
+unfoldable pub bit : Bool → ℕ
+bit b = pick b 1 0
+
+unfoldable pub encoded : Entry → Words
+encoded e =
+    record {
+      0 = e .asid % 65536 + 65536 * (e .kind % 4) + 262144 * bit (e .validated) + 524288 * bit (e .fixed);
+      1 = e .address;
+    }
+
+-- "validating, fixing or moving it gives a new value"
+unfoldable pub toValidated : Entry → Entry
+toValidated e = entry (e .asid) (e .kind) true (e .fixed) (e .address)
+
+unfoldable pub toFixed : Entry → ℕ → Entry
+toFixed e leaf = entry (e .asid) (e .kind) (e .validated) true leaf
+
+unfoldable pub toUnfixed : Entry → ℕ → Entry
+toUnfixed e gpa = entry (e .asid) (e .kind) (e .validated) false gpa
+
+unfoldable pub toMoved : Entry → ℕ → ℕ → Entry
+toMoved e asid gpa = entry asid (e .kind) (e .validated) false gpa

@@ -1,0 +1,72 @@
+-- 01, "Entries on both sides of the line (to be proved, N = 8)": the sixteen examples, in the paper's order.
+use mathlib.Core.Path.{_≡_, refl}
+use mathlib.Core.List.{List, [], _∷_, map}
+use Prim.Native.Nat.{ℕ}
+use Rattle.words.specs.Choice.{pick, _and_, _or_}
+use Rattle.entries.specs.Entry.{decoded, wellFormed, asidFits, flagsFit, addressFits, isOwned, isUnowned, isAddress, fields, entry}
+use Rattle.entries.specs.Leaf.{leafWord}
+use Rattle.entries.specs.declared.entry.Decoded.{Decoded}
+use Rattle.entries.specs.declared.entry.Decoded.the-variants.{Good, Bad}
+use Rattle.entries.specs.declared.leaf.LeafWord.{LeafWord}
+use Rattle.entries.specs.declared.leaf.LeafWord.the-variants.{Absent, Present, Misshapen}
+
+-- what an example gives: the two words of an entry, or the word of a leaf
+pub data Given : Type 0 where
+  twoWords : ℕ → ℕ → Given
+  leafPage : ℕ → Given
+
+-- what the paper, or a definition, says of it
+pub data Says : Type 0 where
+  good : Says
+  bad : Says
+  present : ℕ → Says
+  absent : Says
+  misshapen : Says
+
+pub record Example : Type 0 where
+  pub given : Given
+  pub says : Says
+
+infix 70 _is_
+abbrev pub _is_ : Given → Says → Example
+g is s = record { given = g; says = s }
+
+-- what the definitions say
+unfoldable pub ofEntry : Decoded → Says
+ofEntry (Good e) = good
+ofEntry Bad = bad
+
+unfoldable pub ofLeaf : LeafWord → Says
+ofLeaf Absent = absent
+ofLeaf (Present a) = present a
+ofLeaf Misshapen = misshapen
+
+unfoldable pub judged : Given → Says
+judged (twoWords word0 word1) = ofEntry (decoded 8 word0 word1)
+judged (leafPage w) = ofLeaf (leafWord w)
+
+-- the examples with what the paper says of each
+unfoldable pub examples : List Example
+examples =
+    twoWords 0x0 0x0 is good
+    ∷ twoWords 0x20007 0x50000 is good
+    ∷ twoWords 0x60007 0x50000 is good
+    ∷ twoWords 0xe0007 0x3000 is good
+    ∷ twoWords 0x101ff 0x1000 is good
+    ∷ twoWords 0x30000 0x0 is good
+    ∷ twoWords 0xe0007 0x8000 is bad
+    ∷ twoWords 0xa0007 0x3000 is bad
+    ∷ twoWords 0x10000 0x1000 is bad
+    ∷ twoWords 0x10200 0x1000 is bad
+    ∷ twoWords 0x30000 0x1000 is bad
+    ∷ twoWords 0x100000 0x0 is bad
+    ∷ leafPage 0x50001 is present 0x50000
+    ∷ leafPage 0x50000 is absent
+    ∷ leafPage 0x50003 is misshapen
+    ∷ leafPage 0x10000000000001 is misshapen
+    ∷ []
+
+-- The one statement: the definitions say of each example what the paper says.
+pub as-the-paper-says : map (λ (x : Example). judged (x .given)) examples ≡ map (λ (x : Example). x .says) examples
+unfolding examples judged ofEntry ofLeaf decoded wellFormed asidFits flagsFit addressFits isOwned isUnowned isAddress fields entry leafWord pick _and_ _or_
+as-the-paper-says = refl

@@ -1,0 +1,179 @@
+// An entry of the RMP and its two words.
+ghost use mathlib.Core.Path.{_≡_};
+ghost use Rattle.entries.specs.Entry.{isAddress, isOwned, isUnowned, asidFits, flagsFit, addressFits, wellFormed, fields, decoded, bit, encoded, toValidated, toFixed, toUnfixed, toMoved};
+
+// The types of a page.
+pub const SHARED: u64 = 0;
+
+pub const PRIVATE: u64 = 1;
+
+pub const MERGEABLE: u64 = 2;
+
+pub const LEAF: u64 = 3;
+
+// `address` is the guest's address of the page or, where the page is fixed, the address of its leaf.
+pub struct Entry {
+    pub asid: u64,
+    pub kind: u64,
+    pub validated: bool,
+    pub fixed: bool,
+    pub address: u64,
+}
+
+// What two words of the table hold.
+pub enum Decoded {
+    Good(Entry),
+    Bad,
+}
+
+// The two words of an entry.
+pub struct Words(pub u64, pub u64);
+
+// A multiple of 4,096 below 2^52.
+pub fn is_address(a: u64) -> bool
+    ensures { λ r. ⌜ r ≡ isAddress a ⌝ }
+{
+    (a % 4096 == 0) & (a < 4503599627370496)
+}
+
+// PRIVATE or MERGEABLE: a type of pages that belong to a guest.
+pub fn is_owned(kind: u64) -> bool
+    ensures { λ r. ⌜ r ≡ isOwned kind ⌝ }
+{
+    (kind == PRIVATE) | (kind == MERGEABLE)
+}
+
+// SHARED or LEAF: a type of pages that belong to no guest.
+pub fn is_unowned(kind: u64) -> bool
+    ensures { λ r. ⌜ r ≡ isUnowned kind ⌝ }
+{
+    (kind == SHARED) | (kind == LEAF)
+}
+
+fn bit(b: bool) -> u64
+    ensures { λ r. ⌜ r ≡ bit b ⌝ }
+{
+    if b { 1 } else { 0 }
+}
+
+impl Entry {
+    // Whether the ASID is one that the type allows.
+    fn asid_fits(self) -> bool
+        ensures { λ r. ⌜ r ≡ asidFits self ⌝ }
+    {
+        (is_unowned(self.kind) & (self.asid == 0))
+            | (is_owned(self.kind) & (1 <= self.asid) & (self.asid <= 511))
+    }
+
+    // Whether the flags are ones that the type allows.
+    fn flags_fit(self) -> bool
+        ensures { λ r. ⌜ r ≡ flagsFit self ⌝ }
+    {
+        (is_unowned(self.kind) & !self.validated & !self.fixed)
+            | (is_owned(self.kind) & (!self.fixed | ((self.kind == MERGEABLE) & self.validated)))
+    }
+
+    // Whether the address is one that type and flags allow, in a table of so many frames.
+    fn address_fits(self, frames: usize) -> bool
+        ensures { λ r. ⌜ r ≡ addressFits frames self ⌝ }
+    {
+        (is_unowned(self.kind) & (self.address == 0))
+            | (is_owned(self.kind)
+                & is_address(self.address)
+                & (!self.fixed | (self.address / 4096 < frames as u64)))
+    }
+
+    // Whether a table of so many frames may hold this entry.
+    pub fn well_formed(self, frames: usize) -> bool
+        ensures { λ r. ⌜ r ≡ wellFormed frames self ⌝ }
+    {
+        self.asid_fits() & self.flags_fit() & self.address_fits(frames)
+    }
+
+    // Its two words.
+    pub fn encode(self) -> Words
+        ensures { λ r. ⌜ r ≡ encoded self ⌝ }
+    {
+        Words(
+            self.asid % 65536
+                + 65536 * (self.kind % 4)
+                + 262144 * bit(self.validated)
+                + 524288 * bit(self.fixed),
+            self.address,
+        )
+    }
+
+    // The entry with VALIDATED set.
+    pub fn to_validated(self) -> Entry
+        ensures { λ r. ⌜ r ≡ toValidated self ⌝ }
+    {
+        Entry {
+            asid: self.asid,
+            kind: self.kind,
+            validated: true,
+            fixed: self.fixed,
+            address: self.address,
+        }
+    }
+
+    // The entry with FIXED set, at the address of its leaf.
+    pub fn to_fixed(self, leaf: u64) -> Entry
+        ensures { λ r. ⌜ r ≡ toFixed self leaf ⌝ }
+    {
+        Entry {
+            asid: self.asid,
+            kind: self.kind,
+            validated: self.validated,
+            fixed: true,
+            address: leaf,
+        }
+    }
+
+    // The entry with FIXED clear, at the guest's address.
+    pub fn to_unfixed(self, gpa: u64) -> Entry
+        ensures { λ r. ⌜ r ≡ toUnfixed self gpa ⌝ }
+    {
+        Entry {
+            asid: self.asid,
+            kind: self.kind,
+            validated: self.validated,
+            fixed: false,
+            address: gpa,
+        }
+    }
+
+    // The entry with FIXED clear, at the address of another guest.
+    pub fn to_moved(self, asid: u64, gpa: u64) -> Entry
+        ensures { λ r. ⌜ r ≡ toMoved self asid gpa ⌝ }
+    {
+        Entry {
+            asid,
+            kind: self.kind,
+            validated: self.validated,
+            fixed: false,
+            address: gpa,
+        }
+    }
+}
+
+// The fields of two words, whatever they are.
+fn fields(word0: u64, word1: u64) -> Entry
+    ensures { λ r. ⌜ r ≡ fields word0 word1 ⌝ }
+{
+    Entry {
+        asid: word0 % 65536,
+        kind: word0 / 65536 % 4,
+        validated: word0 / 262144 % 2 == 1,
+        fixed: word0 / 524288 % 2 == 1,
+        address: word1,
+    }
+}
+
+// The entry that two words of a table of so many frames hold.
+pub fn decode(frames: usize, word0: u64, word1: u64) -> Decoded
+    ensures { λ r. ⌜ r ≡ decoded frames word0 word1 ⌝ }
+{
+    let e = fields(word0, word1);
+    let good = (word0 / 1048576 == 0) & e.well_formed(frames);
+    if good { Decoded::Good(e) } else { Decoded::Bad }
+}

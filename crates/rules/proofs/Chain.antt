@@ -1,0 +1,46 @@
+-- A chain of checks, link by link: what holds of every refusal, which keeps the state, and of what follows a check that passed, holds
+-- of the chain. `no` is the refusals' case, given once for a whole call.
+-- Assumes nothing.
+use mathlib.Core.Path.{_≡_, refl}
+use mathlib.Core.Bool.{Bool, true, false}
+use Prim.Native.Nat.{ℕ}
+use Rattle.words.specs.Choice.{pick}
+use Rattle.entries.specs.declared.entry.Entry.{Entry}
+use Rattle.entries.specs.declared.entry.Decoded.{Decoded}
+use Rattle.entries.specs.declared.entry.Decoded.the-variants.{Good, Bad}
+use Rattle.entries.specs.declared.leaf.LeafWord.{LeafWord}
+use Rattle.entries.specs.declared.leaf.LeafWord.the-variants.{Absent, Present, Misshapen}
+use Rattle.rules.specs.Answers.{Told, refused, Outcome, outcome, Verdict, refuse, grant, settle, unless, entered}
+use Rattle.rules.specs.Leaves.{consult}
+use Rattle.rules.specs.State.{State}
+
+module _ (P : Outcome → Type 0) (s : State) where
+  pub granted : (a : Told) (u : State) → P (outcome a u) → P (settle s (grant a u))
+  unfolding settle
+  granted a u h = h
+
+  -- a choice between two chains
+  pub chosen : (t : Bool) (v w : Verdict) → (t ≡ true → P (settle s v)) → (t ≡ false → P (settle s w)) → P (settle s (pick t v w))
+  unfolding pick
+  chosen true v w f g = f refl
+  chosen false v w f g = g refl
+
+  module _ (no : (n : ℕ) → P (outcome (refused n) s)) where
+    pub turned-down : (n : ℕ) → P (settle s (refuse n))
+    unfolding settle
+    turned-down n = no n
+
+    pub checked : (t : Bool) (n : ℕ) (v : Verdict) → (t ≡ true → P (settle s v)) → P (settle s (unless t n v))
+    unfolding unless
+    checked t n v f = chosen t v (refuse n) f (λ e. turned-down n)
+
+    pub decoded-by : (d : Decoded) (rest : Entry → Verdict) → ((e : Entry) → d ≡ Good e → P (settle s (rest e))) → P (settle s (entered d rest))
+    unfolding entered
+    decoded-by (Good e) rest f = f e refl
+    decoded-by Bad rest f = turned-down _
+
+    pub consulted-by : (w : LeafWord) (absent : Verdict) (present : ℕ → Verdict) → (w ≡ Absent → P (settle s absent)) → ((gpa : ℕ) → w ≡ Present gpa → P (settle s (present gpa))) → P (settle s (consult w absent present))
+    unfolding consult
+    consulted-by Absent absent present f g = f refl
+    consulted-by (Present gpa) absent present f g = g gpa refl
+    consulted-by Misshapen absent present f g = turned-down _

@@ -1,0 +1,11 @@
+-- The rules of paper 01: what each call answers and leaves, over table and memory.
+pub mod Access
+pub mod Answers
+pub mod Arguments
+pub mod Assignment
+pub mod Calls
+pub mod Census
+pub mod Leaves
+pub mod Merging
+pub mod Refusals
+pub mod State

@@ -1,0 +1,57 @@
+-- 01, "Sizes and layout": table and memory, their sizes, and what the rules read and change in them. Only this file says where an
+-- entry or a word lies; the rules go through these names, and the proofs through the laws about them.
+use mathlib.Core.Bool.{Bool}
+use mathlib.Core.List.{List}
+use Prim.Native.Nat.{ℕ, _/_}
+use lib.Dec.{leb}
+use Rattle.words.specs.Choice.{_and_}
+use Rattle.words.specs.Frame.{frameCount, isFramed, wordIn, putWord, zeroFrame, copyFrame, differingIn}
+use Rattle.entries.specs.Table.{covered, isWhole, entryIn, putEntry}
+use Rattle.entries.specs.declared.entry.Entry.{Entry}
+use Rattle.entries.specs.declared.entry.Decoded.{Decoded}
+
+pub record State : Type 0 where
+  pub table : List ℕ
+  pub memory : List ℕ
+
+abbrev pub state : List ℕ → List ℕ → State
+state table memory = record { table = table; memory = memory }
+
+-- N, the frames that the table covers, and M, the frames of memory
+unfoldable pub N : State → ℕ
+N s = covered (s .table)
+
+unfoldable pub M : State → ℕ
+M s = frameCount (s .memory)
+
+-- "1 ≤ N ≤ 4,096 and N ≤ M ≤ 8,192; table length 2N, memory length 512·M"
+unfoldable pub sized : State → Bool
+sized s =
+    isWhole (s .table) and isFramed (s .memory) and leb 1 (N s) and leb (N s) 4096 and leb (N s) (M s) and leb (M s) 8192
+
+-- "Frame number = hpa / 4,096"
+unfoldable pub frameOf : ℕ → ℕ
+frameOf hpa = hpa / 4096
+
+-- what a frame holds: its entry, a word of it, and how many words of two frames differ
+unfoldable pub entryAt : State → ℕ → Decoded
+entryAt s frame = entryIn (s .table) frame
+
+unfoldable pub wordAt : State → ℕ → ℕ → ℕ
+wordAt s frame index = wordIn (s .memory) frame index
+
+unfoldable pub differingAt : State → ℕ → ℕ → ℕ
+differingAt s one two = differingIn (s .memory) one two
+
+-- the changes: an entry, a word, a frame zeroed, a frame copied to another
+unfoldable pub withEntry : State → ℕ → Entry → State
+withEntry s frame e = state (putEntry (s .table) frame e) (s .memory)
+
+unfoldable pub withWord : State → ℕ → ℕ → ℕ → State
+withWord s frame index value = state (s .table) (putWord (s .memory) frame index value)
+
+unfoldable pub withZeros : State → ℕ → State
+withZeros s frame = state (s .table) (zeroFrame (s .memory) frame)
+
+unfoldable pub withCopy : State → ℕ → ℕ → State
+withCopy s from to = state (s .table) (copyFrame (s .memory) from to)

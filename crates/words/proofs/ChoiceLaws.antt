@@ -1,0 +1,57 @@
+-- Choices and joined tests: what a test that passed tells, one comparison taken apart, and a choice behind two bounds.
+-- Assumes nothing.
+use mathlib.Core.Path.{_≡_, refl, _∙_}
+use mathlib.Core.Bool.{Bool, true, false, false≢true}
+use mathlib.Core.Logic.{_⊎_, inl, inr, ⊎-elim}
+use Prim.Native.Nat.{ℕ, _≤_, _<_}
+use native.Mathlib.Decide.{decLt}
+use native.Mathlib.Omega.{arith}
+use lib.Dec.{ltb}
+use borrow.Author.Tests.{lt-ltb, le-ltb}
+use Rattle.words.specs.Choice.{pick, _and_, _or_}
+
+pub lt-or-le : (a b : ℕ) → (a < b) ⊎ (b ≤ a)
+lt-or-le a b = elim (decLt a b) [ yes h ↦ inl h | no h ↦ inr (omega arith) ]
+
+pub pick-true : {A : Type 0} {t : Bool} (a b : A) → t ≡ true → pick t a b ≡ a
+unfolding pick
+pick-true a b e = rw e
+
+pub pick-false : {A : Type 0} {t : Bool} (a b : A) → t ≡ false → pick t a b ≡ b
+unfolding pick
+pick-false a b e = rw e
+
+module _ (s t : Bool) where
+  pub and-left : s and t ≡ true → s ≡ true
+  unfolding _and_
+  and-left = elim s [ true ↦ λ e. refl | false ↦ λ e. e ]
+
+  pub and-right : s and t ≡ true → t ≡ true
+  unfolding _and_
+  and-right = elim s [ true ↦ λ e. e | false ↦ λ e. absurd (false≢true e) ]
+
+  pub and-both : s ≡ true → t ≡ true → s and t ≡ true
+  unfolding _and_
+  and-both p q = rw (p, q)
+
+  pub or-cases : s or t ≡ true → (s ≡ true) ⊎ (t ≡ true)
+  unfolding _or_
+  or-cases = elim s [ true ↦ λ e. inl refl | false ↦ λ e. inr e ]
+
+-- a choice behind two bounds: both are kept, or one is not
+module _ {A : Type 0} (a b c d : ℕ) (x y : A) where
+  pub bounds-kept : a < b → c < d → pick (ltb a b) (pick (ltb c d) x y) y ≡ x
+  bounds-kept h l = pick-true _ _ (lt-ltb _ _ h) ∙ pick-true _ _ (lt-ltb _ _ l)
+
+  pub first-not : b ≤ a → pick (ltb a b) (pick (ltb c d) x y) y ≡ y
+  first-not h = pick-false _ _ (le-ltb _ _ h)
+
+  pub second-not : d ≤ c → pick (ltb a b) (pick (ltb c d) x y) y ≡ y
+  second-not l = ⊎-elim (λ h. pick-true _ _ (lt-ltb _ _ h) ∙ pick-false _ _ (le-ltb _ _ l)) first-not (lt-or-le a b)
+
+  pub bounds-either : (P : A → Type 0) → (a < b → c < d → P x) → P y → P (pick (ltb a b) (pick (ltb c d) x y) y)
+  bounds-either P kept not =
+      ⊎-elim
+      (λ h. ⊎-elim (λ l. rw (bounds-kept h l) (kept h l)) (λ l. rw (second-not l) not) (lt-or-le c d))
+      (λ h. rw (first-not h) not)
+      (lt-or-le a b)

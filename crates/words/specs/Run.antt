@@ -1,0 +1,27 @@
+-- Runs of 64-bit words: what copying and comparing them gives, for runs of any length.
+use mathlib.Core.List.{List, _++_}
+use Prim.Native.Nat.{ℕ, zero, suc, _+_}
+use lib.Dec.{leb, eqb}
+use lib.ListN.{length, getD, take, drop}
+use Rattle.words.specs.Choice.{pick}
+
+-- `count` words from the place `from` on
+unfoldable pub part : List ℕ → ℕ → ℕ → List ℕ
+part words from count = take count (drop from words)
+
+-- `run` laid over `words` from the place `at` on. A run that does not fit there changes nothing.
+unfoldable pub pasted : List ℕ → ℕ → List ℕ → List ℕ
+pasted words at run = pick (leb (at + length run) (length words)) (take at words ++ (run ++ drop (at + length run) words)) words
+
+-- `target` with as many words of `source` at its front as it has room for
+unfoldable pub copied : List ℕ → List ℕ → List ℕ
+copied target source = pasted target 0 (take (length target) source)
+
+-- `count` words from `from` on, laid over the same words from `to` on. A run that is not whole changes nothing.
+unfoldable pub copiedWithin : List ℕ → ℕ → ℕ → ℕ → List ℕ
+copiedWithin words from to count = pick (leb (from + count) (length words)) (pasted words to (part words from count)) words
+
+-- how many of the first n words of two runs differ
+unfoldable pub differing : List ℕ → List ℕ → ℕ → ℕ
+differing a b zero = 0
+differing a b (suc n) = differing a b n + pick (eqb (getD a n 0) (getD b n 0)) 0 1

@@ -1,0 +1,80 @@
+// Frames of memory, each a run of 512 words. A frame that memory does not have whole, and a word index above 511, read as zero,
+// and a change there changes nothing.
+ghost use mathlib.Core.Path.{_≡_};
+ghost use Rattle.words.specs.Frame.{frameCount, isFramed, wordIn, putWord, zeroFrame, copyFrame, differingIn};
+use crate::run;
+
+// How many whole frames memory has.
+pub fn count(memory: &[u64]) -> usize
+    ensures { λ r. ⌜ r ≡ frameCount (now (memory .entry)) ⌝ }
+{
+    memory.len() / 512
+}
+
+// Whether no part of a frame is left over at memory's end.
+pub fn is_whole(memory: &[u64]) -> bool
+    ensures { λ r. ⌜ r ≡ isFramed (now (memory .entry)) ⌝ }
+{
+    memory.len() % 512 == 0
+}
+
+// A word of a frame.
+pub fn word(memory: &[u64], frame: usize, index: usize) -> u64
+    ensures { λ r. ⌜ r ≡ wordIn (now (memory .entry)) frame index ⌝ }
+{
+    if frame < memory.len() / 512 {
+        if index < 512 {
+            return memory[512 * frame + index];
+        }
+    }
+    0
+}
+
+// A word of a frame becomes `value`.
+pub fn put_word(memory: &mut [u64], frame: usize, index: usize, value: u64)
+    ensures { λ _. ⌜ now (memory .exit) ≡ putWord (now (memory .entry)) frame index value ⌝ }
+{
+    if frame < memory.len() / 512 {
+        if index < 512 {
+            memory[512 * frame + index] = value;
+        }
+    }
+}
+
+// Every word of a frame becomes zero.
+pub fn zero(memory: &mut [u64], frame: usize)
+    ensures { λ _. ⌜ now (memory .exit) ≡ zeroFrame (now (memory .entry)) frame ⌝ }
+{
+    if frame < memory.len() / 512 {
+        let start = 512 * frame;
+        let end = start + 512;
+        run::zero(&mut memory[start..end]);
+    }
+}
+
+// The words of frame `from` stand in frame `to` too.
+pub fn copy(memory: &mut [u64], from: usize, to: usize)
+    ensures { λ _. ⌜ now (memory .exit) ≡ copyFrame (now (memory .entry)) from to ⌝ }
+{
+    if from < memory.len() / 512 {
+        if to < memory.len() / 512 {
+            run::copy_within(memory, 512 * from, 512 * to, 512);
+        }
+    }
+}
+
+// How many words of two frames differ.
+pub fn differing(memory: &[u64], one: usize, two: usize) -> u64
+    ensures { λ r. ⌜ r ≡ differingIn (now (memory .entry)) one two ⌝ }
+{
+    if one < memory.len() / 512 {
+        if two < memory.len() / 512 {
+            let a = 512 * one;
+            let b = 512 * two;
+            let a_end = a + 512;
+            let b_end = b + 512;
+            return run::differing(&memory[a..a_end], &memory[b..b_end]);
+        }
+    }
+    0
+}
