@@ -5,6 +5,7 @@ pub mod Arguments
 pub mod Assignment
 pub mod Calls
 pub mod Census
+pub mod Examples
 pub mod Leaves
 pub mod Merging
 pub mod Refusals

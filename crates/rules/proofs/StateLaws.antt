@@ -1,0 +1,171 @@
+-- Table and memory as the rules read and change them: an entry after an entry was put or memory changed, a word after a word, a zeroing
+-- or a copy, and that no change alters a size. This is the only file above `entries` and `words` that opens the state: all other
+-- proofs cite these laws. Each is a law of the table or of a frame, carried over.
+-- Assumes nothing.
+use mathlib.Core.Path.{_≡_, refl, _∙_}
+use mathlib.Core.Bool.{Bool, true, false}
+use mathlib.Core.List.{List}
+use mathlib.Core.Logic.{_≢_}
+use Prim.Native.Nat.{ℕ, _≤_, _<_}
+use lib.ListN.{replicate}
+use lib.Dec.{leb}
+use borrow.Author.Tests.{leb-true}
+use Rattle.words.specs.Choice.{_and_}
+use Rattle.words.specs.Frame.{frameCount}
+use Rattle.words.proofs.ChoiceLaws.{and-left, and-right}
+use Rattle.words.proofs.FrameLaws.{count-putWord, count-zeroFrame, count-copyFrame, framed-putWord, framed-zeroFrame, framed-copyFrame, word-outside, word-past, word-put-same, word-put-other-frame, word-put-other-index, word-zero-same, word-zero-other, word-copy-same, word-copy-other, same-words}
+use Rattle.entries.specs.Entry.{unowned, wellFormed}
+use Rattle.entries.specs.Table.{covered}
+use Rattle.entries.specs.declared.entry.Entry.{Entry}
+use Rattle.entries.specs.declared.entry.Decoded.{Decoded}
+use Rattle.entries.specs.declared.entry.Decoded.the-variants.{Good, Bad}
+use Rattle.entries.proofs.TableLaws.{covered-put, whole-put, entry-put-same, entry-put-other, entry-good, entry-empty}
+use Rattle.entries.proofs.Tells.{Tells, tells}
+use Rattle.rules.specs.State.{State, state, N, M, sized, entryAt, wordAt, differingAt, withEntry, withWord, withZeros, withCopy}
+
+-- ---- sizes
+pub record Sizes (s : State) : Type 0 where
+  pub some-frame : 1 ≤ N s
+  pub table-most : N s ≤ 4096
+  pub memory-least : N s ≤ M s
+  pub memory-most : M s ≤ 8192
+
+pub sizes : (s : State) → sized s ≡ true → Sizes s
+unfolding sized
+sizes s h =
+    let h1 = and-left _ _ h in
+    let h2 = and-left _ _ h1 in
+    let h3 = and-left _ _ h2 in
+    record {
+      some-frame = leb-true _ _ (and-right _ _ h3);
+      table-most = leb-true _ _ (and-right _ _ h2);
+      memory-least = leb-true _ _ (and-right _ _ h1);
+      memory-most = leb-true _ _ (and-right _ _ h);
+    }
+
+-- the sizes of one state are those of another
+pub record SameSize (s u : State) : Type 0 where
+  pub same-N : N u ≡ N s
+  pub same-M : M u ≡ M s
+  pub same-sized : sized u ≡ sized s
+
+pub size-refl : (s : State) → SameSize s s
+size-refl s = record { same-N = refl; same-M = refl; same-sized = refl }
+
+pub size-trans : {s u v : State} → SameSize s u → SameSize u v → SameSize s v
+size-trans p q =
+    record {
+      same-N = q .same-N ∙ p .same-N;
+      same-M = q .same-M ∙ p .same-M;
+      same-sized = q .same-sized ∙ p .same-sized;
+    }
+
+pub size-entry : (s : State) (f : ℕ) (e : Entry) → SameSize s (withEntry s f e)
+unfolding withEntry N M sized
+size-entry s f e =
+    let n = covered-put (s .table) f e in
+    record { same-N = n; same-M = refl; same-sized = rw (n, whole-put (s .table) f e) }
+
+pub size-word : (s : State) (f i v : ℕ) → SameSize s (withWord s f i v)
+unfolding withWord N M sized
+size-word s f i v =
+    let m = count-putWord (s .memory) f i v in
+    record { same-N = refl; same-M = m; same-sized = rw (m, framed-putWord (s .memory) f i v) }
+
+pub size-zeros : (s : State) (f : ℕ) → SameSize s (withZeros s f)
+unfolding withZeros N M sized
+size-zeros s f =
+    let m = count-zeroFrame (s .memory) f in
+    record { same-N = refl; same-M = m; same-sized = rw (m, framed-zeroFrame (s .memory) f) }
+
+pub size-copy : (s : State) (f g : ℕ) → SameSize s (withCopy s f g)
+unfolding withCopy N M sized
+size-copy s f g =
+    let m = count-copyFrame (s .memory) f g in
+    record { same-N = refl; same-M = m; same-sized = rw (m, framed-copyFrame (s .memory) f g) }
+
+-- ---- entries
+module _ (s : State) (f : ℕ) where
+  -- a good entry: the table covers its frame, and it is well formed
+  pub entry-inside : (e : Entry) → entryAt s f ≡ Good e → f < N s
+  unfolding entryAt N
+  entry-inside e h = entry-good (s .table) f e h .0
+
+  pub entry-fits : (e : Entry) → entryAt s f ≡ Good e → wellFormed (N s) e ≡ true
+  unfolding entryAt N
+  entry-fits e h = entry-good (s .table) f e h .1
+
+  pub entry-tells : (e : Entry) → entryAt s f ≡ Good e → Tells (N s) e
+  entry-tells e h = tells (N s) e (entry-fits e h)
+
+  pub entry-after-entry : (e : Entry) → f < N s → wellFormed (N s) e ≡ true → entryAt (withEntry s f e) f ≡ Good e
+  unfolding entryAt withEntry N
+  entry-after-entry e h w = entry-put-same (s .table) f e h w
+
+  pub entry-elsewhere : (e : Entry) (g : ℕ) → g ≢ f → entryAt (withEntry s f e) g ≡ entryAt s g
+  unfolding entryAt withEntry
+  entry-elsewhere e g apart = entry-put-other (s .table) f e g apart
+
+  pub entry-after-word : (i v g : ℕ) → entryAt (withWord s f i v) g ≡ entryAt s g
+  unfolding entryAt withWord
+  entry-after-word i v g = refl
+
+  pub entry-after-zeros : (g : ℕ) → entryAt (withZeros s f) g ≡ entryAt s g
+  unfolding entryAt withZeros
+  entry-after-zeros g = refl
+
+  pub entry-after-copy : (to g : ℕ) → entryAt (withCopy s f to) g ≡ entryAt s g
+  unfolding entryAt withCopy
+  entry-after-copy to g = refl
+
+-- "Empty table: all words zero": every frame is SHARED
+pub entry-of-empty : (k : ℕ) (memory : List ℕ) (f : ℕ) → f < N (state (replicate k 0) memory) → entryAt (state (replicate k 0) memory) f ≡ Good unowned
+unfolding entryAt N
+entry-of-empty k memory f h = entry-empty k f h
+
+-- ---- words
+module _ (s : State) (f : ℕ) where
+  pub word-outside-memory : (i : ℕ) → M s ≤ f → wordAt s f i ≡ 0
+  unfolding wordAt M
+  word-outside-memory i h = word-outside (s .memory) f i h
+
+  pub word-past-frame : (i : ℕ) → 512 ≤ i → wordAt s f i ≡ 0
+  unfolding wordAt
+  word-past-frame i h = word-past (s .memory) f i h
+
+  pub word-after-entry : (e : Entry) (g i : ℕ) → wordAt (withEntry s f e) g i ≡ wordAt s g i
+  unfolding wordAt withEntry
+  word-after-entry e g i = refl
+
+  pub word-after-word : (i v : ℕ) → f < M s → i < 512 → wordAt (withWord s f i v) f i ≡ v
+  unfolding wordAt withWord M
+  word-after-word i v h l = word-put-same (s .memory) f i v h l
+
+  pub word-elsewhere : (i v g j : ℕ) → g ≢ f → wordAt (withWord s f i v) g j ≡ wordAt s g j
+  unfolding wordAt withWord
+  word-elsewhere i v g j apart = word-put-other-frame (s .memory) f i v g j apart
+
+  pub word-beside : (i v g j : ℕ) → j ≢ i → wordAt (withWord s f i v) g j ≡ wordAt s g j
+  unfolding wordAt withWord
+  word-beside i v g j apart = word-put-other-index (s .memory) f i v g j apart
+
+  pub word-after-zeros : (i : ℕ) → wordAt (withZeros s f) f i ≡ 0
+  unfolding wordAt withZeros
+  word-after-zeros i = word-zero-same (s .memory) f i
+
+  pub word-beside-zeros : (g i : ℕ) → g ≢ f → wordAt (withZeros s f) g i ≡ wordAt s g i
+  unfolding wordAt withZeros
+  word-beside-zeros g i apart = word-zero-other (s .memory) f g i apart
+
+  pub word-after-copy : (to i : ℕ) → f < M s → to < M s → wordAt (withCopy s f to) to i ≡ wordAt s f i
+  unfolding wordAt withCopy M
+  word-after-copy to i h k = word-copy-same (s .memory) f to i h k
+
+  pub word-beside-copy : (to g i : ℕ) → g ≢ to → wordAt (withCopy s f to) g i ≡ wordAt s g i
+  unfolding wordAt withCopy
+  word-beside-copy to g i apart = word-copy-other (s .memory) f to g i apart
+
+  -- two frames with no differing word
+  pub equal-words : (g : ℕ) → differingAt s f g ≡ 0 → f < M s → g < M s → (i : ℕ) → wordAt s f i ≡ wordAt s g i
+  unfolding wordAt differingAt M
+  equal-words g e h k i = same-words (s .memory) f g e h k i

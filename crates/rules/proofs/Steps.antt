@@ -1,0 +1,119 @@
+-- Three laws of every call: a refusal changes nothing, READ and CENSUS change nothing, and no call changes a size. Each goes by the
+-- cases of `Passed`: a refused call keeps the state, and an accepted one makes changes that are known to keep the sizes.
+-- Assumes nothing.
+use mathlib.Core.Path.{_≡_, refl}
+use mathlib.Core.Bool.{Bool, true, false, false≢true}
+use Prim.Native.Nat.{ℕ}
+use lib.Dec.{eqb}
+use Rattle.words.specs.Choice.{pick}
+use Rattle.entries.specs.declared.entry.Entry.{Entry}
+use Rattle.rules.specs.Access.{read}
+use Rattle.rules.specs.Answers.{Told, refused, done, none, closed, opened, already, word, count, Outcome, outcome}
+use Rattle.rules.specs.Assignment.{assigning, closing, validating, opening}
+use Rattle.rules.specs.Calls.{Call, RMPUPDATE, PVALIDATE, PFIX, PMERGE, PUNMERGE, PUNFIX, READ, WRITE, CENSUS, step}
+use Rattle.rules.specs.Census.{census}
+use Rattle.rules.specs.Merging.{fixing, merging, unmerging, unfixing}
+use Rattle.rules.specs.State.{State, withEntry, withWord, withZeros, withCopy}
+use Rattle.rules.proofs.Passed.{rmpupdate-cases, pvalidate-cases, pfix-cases, pmerge-cases, punmerge-cases, punfix-cases, read-cases, write-cases, census-cases}
+use Rattle.rules.proofs.StateLaws.{SameSize, size-refl, size-trans, size-entry, size-word, size-zeros, size-copy}
+
+-- ---- a refusal changes nothing
+abbrev Kept : State → Outcome → Type 0
+Kept s o = (n : ℕ) → o .told ≡ refused n → o .after ≡ s
+
+-- an answer that is no refusal has nothing to show
+accepted : (s : State) (a : Told) (u : State) → ((n : ℕ) → a ≡ refused n → ⊥) → Kept s (outcome a u)
+accepted s a u never n h = absurd (never n h)
+
+done-accepts : (n : ℕ) → done ≡ refused n → ⊥
+done-accepts n h = absurd (false≢true (cc))
+
+closing-accepts : (old : Entry) (n : ℕ) → closing old ≡ refused n → ⊥
+unfolding closing pick
+closing-accepts old n = go (old .validated)
+  where
+    go : (t : Bool) → pick t (closed (old .asid) (old .address)) none ≡ refused n → ⊥
+    go true h = absurd (false≢true (cc))
+    go false h = absurd (false≢true (cc))
+
+opening-accepts : (old : Entry) (n : ℕ) → opening old ≡ refused n → ⊥
+unfolding opening pick
+opening-accepts old n = go (old .validated)
+  where
+    go : (t : Bool) → pick t already opened ≡ refused n → ⊥
+    go true h = absurd (false≢true (cc))
+    go false h = absurd (false≢true (cc))
+
+pub refused-keeps : (s : State) (c : Call) (n : ℕ) → step s c .told ≡ refused n → step s c .after ≡ s
+unfolding step
+refused-keeps s (RMPUPDATE caller hpa gpa asid kind) =
+    rmpupdate-cases (Kept s) s (λ n m h. refl) caller hpa gpa asid kind (λ old p. accepted s _ _ (closing-accepts old))
+refused-keeps s (PVALIDATE caller gpa hpa kind) =
+    pvalidate-cases (Kept s) s (λ n m h. refl) caller gpa hpa kind (λ old p. accepted s _ _ (opening-accepts old))
+refused-keeps s (PFIX caller hpa leaf) = pfix-cases (Kept s) s (λ n m h. refl) caller hpa leaf (λ old p. accepted s _ _ done-accepts)
+refused-keeps s (PMERGE caller hpa1 hpa2) = pmerge-cases (Kept s) s (λ n m h. refl) caller hpa1 hpa2 (λ one two p. accepted s _ _ done-accepts)
+refused-keeps s (PUNMERGE caller hpa1 hpa2 asid) =
+    punmerge-cases (Kept s) s (λ n m h. refl) caller hpa1 hpa2 asid (λ one two gpa p. accepted s _ _ done-accepts)
+refused-keeps s (PUNFIX caller hpa) = punfix-cases (Kept s) s (λ n m h. refl) caller hpa (λ old gpa p. accepted s _ _ done-accepts)
+refused-keeps s (READ caller gpa hpa gtype ntype index) =
+    read-cases (Kept s) s (λ n m h. refl) caller gpa hpa gtype ntype index (λ p n h. refl)
+refused-keeps s (WRITE caller gpa hpa gtype ntype index value) =
+    write-cases (Kept s) s (λ n m h. refl) caller gpa hpa gtype ntype index value (λ p. accepted s _ _ done-accepts)
+refused-keeps s (CENSUS asid) = census-cases (Kept s) s (λ n m h. refl) asid (λ n p m h. refl)
+
+-- ---- READ and CENSUS change nothing
+pub read-keeps : (s : State) (caller gpa hpa gtype ntype index : ℕ) → read s caller gpa hpa gtype ntype index .after ≡ s
+read-keeps s caller gpa hpa gtype ntype index =
+    read-cases (λ o. o .after ≡ s) s (λ n. refl) caller gpa hpa gtype ntype index (λ p. refl)
+
+pub census-keeps : (s : State) (asid : ℕ) → census s asid .after ≡ s
+census-keeps s asid = census-cases (λ o. o .after ≡ s) s (λ n. refl) asid (λ n p. refl)
+
+-- ---- no call changes a size
+size-cleared : (s : State) (frame : ℕ) (t : Bool) → SameSize s (pick t s (withZeros s frame))
+unfolding pick
+size-cleared s frame true = size-refl s
+size-cleared s frame false = size-zeros s frame
+
+size-assigning : (s : State) (frame : ℕ) (old : Entry) (gpa asid kind : ℕ) → SameSize s (assigning s frame old gpa asid kind)
+unfolding assigning
+size-assigning s frame old gpa asid kind = size-trans (size-cleared s frame _) (size-entry _ _ _)
+
+size-validating : (s : State) (frame : ℕ) (old : Entry) → SameSize s (validating s frame old)
+unfolding validating
+size-validating s frame old = size-entry s frame _
+
+size-fixing : (s : State) (frame : ℕ) (old : Entry) (leaf : ℕ) → SameSize s (fixing s frame old leaf)
+unfolding fixing
+size-fixing s frame old leaf = size-trans (size-zeros s _) (size-trans (size-word _ _ _ _) (size-entry _ _ _))
+
+size-merging : (s : State) (one : Entry) (frame2 : ℕ) (two : Entry) → SameSize s (merging s one frame2 two)
+unfolding merging
+size-merging s one frame2 two = size-trans (size-word s _ _ _) (size-trans (size-zeros _ _) (size-entry _ _ _))
+
+size-unmerging : (s : State) (frame1 : ℕ) (one : Entry) (frame2 asid gpa : ℕ) → SameSize s (unmerging s frame1 one frame2 asid gpa)
+unfolding unmerging
+size-unmerging s frame1 one frame2 asid gpa = size-trans (size-copy s _ _) (size-trans (size-entry _ _ _) (size-word _ _ _ _))
+
+size-unfixing : (s : State) (frame : ℕ) (old : Entry) (gpa : ℕ) → SameSize s (unfixing s frame old gpa)
+unfolding unfixing
+size-unfixing s frame old gpa = size-trans (size-entry s _ _) (size-trans (size-entry _ _ _) (size-zeros _ _))
+
+pub step-size : (s : State) (c : Call) → SameSize s (step s c .after)
+unfolding step
+step-size s (RMPUPDATE caller hpa gpa asid kind) =
+    rmpupdate-cases (λ o. SameSize s (o .after)) s (λ n. size-refl s) caller hpa gpa asid kind (λ old p. size-assigning s _ old gpa asid kind)
+step-size s (PVALIDATE caller gpa hpa kind) =
+    pvalidate-cases (λ o. SameSize s (o .after)) s (λ n. size-refl s) caller gpa hpa kind (λ old p. size-validating s _ old)
+step-size s (PFIX caller hpa leaf) =
+    pfix-cases (λ o. SameSize s (o .after)) s (λ n. size-refl s) caller hpa leaf (λ old p. size-fixing s _ old leaf)
+step-size s (PMERGE caller hpa1 hpa2) =
+    pmerge-cases (λ o. SameSize s (o .after)) s (λ n. size-refl s) caller hpa1 hpa2 (λ one two p. size-merging s one _ two)
+step-size s (PUNMERGE caller hpa1 hpa2 asid) =
+    punmerge-cases (λ o. SameSize s (o .after)) s (λ n. size-refl s) caller hpa1 hpa2 asid (λ one two gpa p. size-unmerging s _ one _ asid gpa)
+step-size s (PUNFIX caller hpa) =
+    punfix-cases (λ o. SameSize s (o .after)) s (λ n. size-refl s) caller hpa (λ old gpa p. size-unfixing s _ old gpa)
+step-size s (READ caller gpa hpa gtype ntype index) = rw (read-keeps s caller gpa hpa gtype ntype index) (size-refl s)
+step-size s (WRITE caller gpa hpa gtype ntype index value) =
+    write-cases (λ o. SameSize s (o .after)) s (λ n. size-refl s) caller gpa hpa gtype ntype index value (λ p. size-word s _ _ _)
+step-size s (CENSUS asid) = rw (census-keeps s asid) (size-refl s)

@@ -1,0 +1,2 @@
+-- The worked script of 01 gives the worked output.
+pub mod Output

@@ -1,0 +1,2 @@
+-- 01, "The script program": the worked script, as calls, and its worked output, as answers.
+pub mod Script

@@ -1,0 +1,64 @@
+-- 01, "The script program": the worked script, as calls, and its worked output, as answers, both in the paper's order.
+use mathlib.Core.List.{List, [], _∷_}
+use Prim.Native.Nat.{ℕ}
+use lib.ListN.{replicate}
+use Rattle.rules.specs.Answers.{Told, refused, done, none, closed, opened, word, count}
+use Rattle.rules.specs.Calls.{Call, RMPUPDATE, PVALIDATE, PFIX, PMERGE, PUNMERGE, PUNFIX, READ, WRITE, CENSUS, step}
+use Rattle.rules.specs.State.{State, state}
+
+-- "an empty table with N = 8, M = 10 and zeroed memory"
+unfoldable pub start : State
+start = state (replicate 16 0) (replicate 5120 0)
+
+-- the answers to a list of calls, each made on table and memory as the call before left them
+unfoldable pub answers : State → List Call → List Told
+answers s [] = []
+answers s (call ∷ calls) = step s call .told ∷ answers (step s call .after) calls
+
+unfoldable pub script : List Call
+script =
+    RMPUPDATE 0x0 0x1000 0x50000 0x7 0x2
+    ∷ PVALIDATE 0x7 0x50000 0x1000 0x2
+    ∷ WRITE 0x7 0x50000 0x1000 0x2 0x2 0x3 0x2a
+    ∷ RMPUPDATE 0x0 0x2000 0x60000 0x9 0x2
+    ∷ PVALIDATE 0x9 0x60000 0x2000 0x2
+    ∷ WRITE 0x9 0x60000 0x2000 0x2 0x2 0x3 0x2a
+    ∷ RMPUPDATE 0x0 0x3000 0x0 0x0 0x3
+    ∷ PFIX 0x0 0x1000 0x3000
+    ∷ PMERGE 0x0 0x1000 0x2000
+    ∷ READ 0x9 0x60000 0x1000 0x2 0x2 0x3
+    ∷ READ 0x9 0x60000 0x2000 0x2 0x2 0x3
+    ∷ WRITE 0x7 0x50000 0x1000 0x2 0x2 0x3 0x2b
+    ∷ PUNFIX 0x0 0x1000
+    ∷ PUNMERGE 0x0 0x1000 0x4000 0x9
+    ∷ PUNFIX 0x0 0x1000
+    ∷ WRITE 0x7 0x50000 0x1000 0x2 0x2 0x3 0x2b
+    ∷ READ 0x9 0x60000 0x4000 0x2 0x2 0x3
+    ∷ CENSUS 0x9
+    ∷ RMPUPDATE 0x0 0x1000 0x50000 0x7 0x2
+    ∷ READ 0x7 0x50000 0x1000 0x2 0x2 0x3
+    ∷ []
+
+unfoldable pub output : List Told
+output =
+    none
+    ∷ opened
+    ∷ done
+    ∷ none
+    ∷ opened
+    ∷ done
+    ∷ none
+    ∷ done
+    ∷ done
+    ∷ word 0x2a
+    ∷ refused 6
+    ∷ refused 10
+    ∷ refused 17
+    ∷ done
+    ∷ done
+    ∷ done
+    ∷ word 0x2a
+    ∷ count 0x1
+    ∷ closed 0x7 0x50000
+    ∷ refused 9
+    ∷ []
