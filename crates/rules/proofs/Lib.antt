@@ -1,5 +1,6 @@
 -- The laws of the rules, which proofs cite instead of opening the definitions.
 pub mod Chain
+pub mod Computed
 pub mod Examples
 pub mod Passed
 pub mod StateLaws
