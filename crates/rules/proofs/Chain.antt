@@ -11,7 +11,7 @@ use Rattle.entries.specs.declared.entry.Decoded.the-variants.{Good, Bad}
 use Rattle.entries.specs.declared.leaf.LeafWord.{LeafWord}
 use Rattle.entries.specs.declared.leaf.LeafWord.the-variants.{Absent, Present, Misshapen}
 use Rattle.rules.specs.Answers.{Told, refused, Outcome, outcome, Verdict, refuse, grant, settle, unless, entered}
-use Rattle.rules.specs.Leaves.{consult}
+use Rattle.rules.specs.Leaves.{placed, vacant}
 use Rattle.rules.specs.State.{State}
 
 module _ (P : Outcome → Type 0) (s : State) where
@@ -39,8 +39,14 @@ module _ (P : Outcome → Type 0) (s : State) where
     decoded-by (Good e) rest f = f e refl
     decoded-by Bad rest f = turned-down _
 
-    pub consulted-by : (w : LeafWord) (absent : Verdict) (present : ℕ → Verdict) → (w ≡ Absent → P (settle s absent)) → ((gpa : ℕ) → w ≡ Present gpa → P (settle s (present gpa))) → P (settle s (consult w absent present))
-    unfolding consult
-    consulted-by Absent absent present f g = f refl
-    consulted-by (Present gpa) absent present f g = g gpa refl
-    consulted-by Misshapen absent present f g = turned-down _
+    pub placed-by : (w : LeafWord) (rest : ℕ → Verdict) → ((gpa : ℕ) → w ≡ Present gpa → P (settle s (rest gpa))) → P (settle s (placed w rest))
+    unfolding placed
+    placed-by Misshapen rest f = turned-down _
+    placed-by Absent rest f = turned-down _
+    placed-by (Present gpa) rest f = f gpa refl
+
+    pub vacant-by : (w : LeafWord) (rest : Verdict) → (w ≡ Absent → P (settle s rest)) → P (settle s (vacant w rest))
+    unfolding vacant
+    vacant-by Misshapen rest f = turned-down _
+    vacant-by (Present gpa) rest f = turned-down _
+    vacant-by Absent rest f = f refl

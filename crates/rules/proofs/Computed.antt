@@ -12,7 +12,7 @@ use Rattle.rules.specs.Arguments.{isParty, isGuest, isHost, updateArgume
 use Rattle.rules.specs.Assignment.{assigning, closing, rmpupdate, validating, opening, pvalidate}
 use Rattle.rules.specs.Calls.{Call, step}
 use Rattle.rules.specs.Census.{inLeaf, inEntry, holding, counted, tally, reported, census}
-use Rattle.rules.specs.Leaves.{leafOf, isLeaf, consulted, consult, namesLeaf, leafInUse, isSharedBy, stillShared}
+use Rattle.rules.specs.Leaves.{leafOf, isLeaf, consulted, placed, vacant, namesLeaf, leafInUse, isSharedBy, stillShared}
 use Rattle.rules.specs.Merging.{fixing, pfix, merging, pmerge, unmerging, punmerge, unfixing, punfix}
 use Rattle.rules.specs.State.{State, N, M, sized, frameOf, entryAt, wordAt, differingAt, withEntry, withWord, withZeros, withCopy}
 
@@ -22,6 +22,6 @@ unfolding pick _and_ _or_ frameCount isFramed wordIn putWord zeroFrame copyFrame
     toFixed toUnfixed leafWord presentAt covered isWhole entryIn putEntry unfixedAccess fixedAccess coveredAccess access read
     write settle unless entered isParty isGuest isHost updateArguments validateArguments twoFrameArguments oneFrameArguments
     accessArguments mayAccess assigning closing rmpupdate validating opening pvalidate step inLeaf inEntry holding counted tally
-    reported census leafOf isLeaf consulted consult namesLeaf leafInUse isSharedBy stillShared fixing pfix merging pmerge
+    reported census leafOf isLeaf consulted placed vacant namesLeaf leafInUse isSharedBy stillShared fixing pfix merging pmerge
     unmerging punmerge unfixing punfix N M sized frameOf entryAt wordAt differingAt withEntry withWord withZeros withCopy
 computed s call = step s call

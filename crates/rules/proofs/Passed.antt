@@ -22,7 +22,7 @@ use Rattle.rules.specs.Leaves.{leafOf, isLeaf, consulted, leafInUse, sti
 use Rattle.rules.specs.Merging.{fixing, pfix, merging, pmerge, unmerging, punmerge, unfixing, punfix}
 use Rattle.rules.specs.Refusals.{TYPE}
 use Rattle.rules.specs.State.{State, N, M, sized, frameOf, entryAt, wordAt, differingAt, withWord}
-use Rattle.rules.proofs.Chain.{granted, chosen, turned-down, checked, decoded-by, consulted-by}
+use Rattle.rules.proofs.Chain.{granted, chosen, turned-down, checked, decoded-by, placed-by, vacant-by}
 
 host-is : (caller : ℕ) → isHost caller ≡ true → caller ≡ 0
 unfolding isHost
@@ -239,8 +239,7 @@ module _ (P : Outcome → Type 0) (s : State) (no : (n : ℕ) → P (outcome (re
       checked P s no _ _ _ λ fixed1.
       checked P s no _ _ _ λ unfixed2.
       checked P s no _ _ _ λ validated2.
-      consulted-by P s no _ _ _
-      (λ no-place.
+      vacant-by P s no _ _ λ no-place.
       checked P s no _ _ _ λ equal.
       granted P s _ _
       (ok one two
@@ -259,8 +258,7 @@ module _ (P : Outcome → Type 0) (s : State) (no : (n : ℕ) → P (outcome (re
         validated2 = validated2;
         no-place = no-place;
         equal = eqb-true _ _ equal;
-      })))
-      (λ gpa taken. turned-down P s no _)
+      }))
 
   pub punmerge-cases : (caller hpa1 hpa2 asid : ℕ)
       → ((one two : Entry) (gpa : ℕ) → Unmerged s caller hpa1 hpa2 asid one two gpa
@@ -276,9 +274,7 @@ module _ (P : Outcome → Type 0) (s : State) (no : (n : ℕ) → P (outcome (re
       decoded-by P s no _ _ λ two here2.
       checked P s no _ _ _ λ types.
       checked P s no _ _ _ λ fixed1.
-      consulted-by P s no _ _ _
-      (λ absent. turned-down P s no _)
-      (λ gpa place.
+      placed-by P s no _ _ λ gpa place.
       granted P s _ _
       (ok one two gpa
       (record {
@@ -294,7 +290,7 @@ module _ (P : Outcome → Type 0) (s : State) (no : (n : ℕ) → P (outcome (re
         type2 = eqb-true _ _ (and-right _ _ types);
         fixed1 = fixed1;
         place = place;
-      })))
+      }))
 
   pub punfix-cases : (caller hpa : ℕ)
       → ((old : Entry) (gpa : ℕ) → Unfixed s caller hpa old gpa → P (outcome done (unfixing s (frameOf hpa) old gpa)))
@@ -308,9 +304,7 @@ module _ (P : Outcome → Type 0) (s : State) (no : (n : ℕ) → P (outcome (re
       decoded-by P s no _ _ λ old here.
       checked P s no _ _ _ λ type.
       checked P s no _ _ _ λ fixed.
-      consulted-by P s no _ _ _
-      (λ absent. turned-down P s no _)
-      (λ gpa place.
+      placed-by P s no _ _ λ gpa place.
       checked P s no _ _ _ λ unshared.
       granted P s _ _
       (ok old gpa
@@ -324,7 +318,7 @@ module _ (P : Outcome → Type 0) (s : State) (no : (n : ℕ) → P (outcome (re
         fixed = fixed;
         place = place;
         unshared = not-true _ unshared;
-      })))
+      }))
 
   -- the checks of an access, whatever it is to do
   module _ (writes : Bool) (caller gpa hpa gtype ntype index : ℕ) (rest : Verdict) where
@@ -342,11 +336,9 @@ module _ (P : Outcome → Type 0) (s : State) (no : (n : ℕ) → P (outcome (re
         chosen P s _ _ _
         (λ fixed.
         checked P s no _ _ _ λ reads.
-        consulted-by P s no _ _ _
-        (λ absent. turned-down P s no _)
-        (λ held place.
+        placed-by P s no _ _ λ held place.
         checked P s no _ _ _ λ address.
-        ok (merged page (ltb-true _ _ inside) here (eqb-true _ _ type) not-shared fixed (not-true _ reads) (rw (← (eqb-true held gpa address)) place))))
+        ok (merged page (ltb-true _ _ inside) here (eqb-true _ _ type) not-shared fixed (not-true _ reads) (rw (← (eqb-true held gpa address)) place)))
         (λ unfixed.
         checked P s no _ _ _ λ owner.
         checked P s no _ _ _ λ address.

@@ -5,10 +5,10 @@ use lib.Dec.{ltb, eqb}
 use Rattle.words.specs.Choice.{pick}
 use Rattle.entries.specs.Entry.{SHARED}
 use Rattle.entries.specs.declared.entry.Entry.{Entry}
-use Rattle.rules.specs.Answers.{done, word, Outcome, Verdict, refuse, grant, settle, unless, entered}
+use Rattle.rules.specs.Answers.{done, word, Outcome, Verdict, grant, settle, unless, entered}
 use Rattle.rules.specs.Arguments.{accessArguments, mayAccess}
-use Rattle.rules.specs.Leaves.{consulted, consult}
-use Rattle.rules.specs.Refusals.{GEOMETRY, ARGUMENT, CALLER, OUTSIDE, TYPE, OWNER, ADDRESS, NOT-VALIDATED, FIXED, NO-PLACE}
+use Rattle.rules.specs.Leaves.{consulted, placed}
+use Rattle.rules.specs.Refusals.{GEOMETRY, ARGUMENT, CALLER, OUTSIDE, TYPE, OWNER, ADDRESS, NOT-VALIDATED, FIXED}
 use Rattle.rules.specs.State.{State, N, M, sized, frameOf, entryAt, wordAt, withWord}
 
 -- "Unfixed: 7, 8, 9, done."
@@ -22,9 +22,8 @@ unfixedAccess caller gpa page rest =
 unfoldable pub fixedAccess : State → Bool → ℕ → ℕ → Entry → Verdict → Verdict
 fixedAccess s writes caller gpa page rest =
     unless (not writes) FIXED
-    (consult (consulted s page caller)
-    (refuse NO-PLACE)
-    (λ held. unless (eqb held gpa) ADDRESS rest))
+    (placed (consulted s page caller) λ held.
+    unless (eqb held gpa) ADDRESS rest)
 
 -- "Below N: 5, 6; SHARED is done with no more checks."
 unfoldable pub coveredAccess : State → Bool → ℕ → ℕ → ℕ → ℕ → Verdict → Verdict

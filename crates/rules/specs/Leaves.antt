@@ -11,7 +11,7 @@ use Rattle.entries.specs.declared.entry.Decoded.the-variants.{Good, Bad}
 use Rattle.entries.specs.declared.leaf.LeafWord.{LeafWord}
 use Rattle.entries.specs.declared.leaf.LeafWord.the-variants.{Absent, Present, Misshapen}
 use Rattle.rules.specs.Answers.{Verdict, refuse}
-use Rattle.rules.specs.Refusals.{BROKEN-LEAF}
+use Rattle.rules.specs.Refusals.{BROKEN-LEAF, NO-PLACE, PLACE-TAKEN}
 use Rattle.rules.specs.State.{State, frameOf, entryAt, wordAt}
 
 -- the leaf frame of a fixed page
@@ -26,11 +26,17 @@ isLeaf Bad = false
 unfoldable pub consulted : State → Entry → ℕ → LeafWord
 consulted s page guest = pick (isLeaf (entryAt s (leafOf page))) (leafWord (wordAt s (leafOf page) guest)) Misshapen
 
--- 12, and then one way on for an absent word and another for a word that is present at an address
-unfoldable pub consult : LeafWord → Verdict → (ℕ → Verdict) → Verdict
-consult Absent absent present = absent
-consult (Present gpa) absent present = present gpa
-consult Misshapen absent present = refuse BROKEN-LEAF
+-- 12, then 13: a call goes on only with a word that is present, at its address
+unfoldable pub placed : LeafWord → (ℕ → Verdict) → Verdict
+placed Misshapen rest = refuse BROKEN-LEAF
+placed Absent rest = refuse NO-PLACE
+placed (Present gpa) rest = rest gpa
+
+-- 12, then 14: a call goes on only with a word that is absent
+unfoldable pub vacant : LeafWord → Verdict → Verdict
+vacant Misshapen rest = refuse BROKEN-LEAF
+vacant (Present gpa) rest = refuse PLACE-TAKEN
+vacant Absent rest = rest
 
 -- 15: one of the first n frames has a well formed FIXED entry that names this leaf
 unfoldable pub namesLeaf : Decoded → ℕ → Bool

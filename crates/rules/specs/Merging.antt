@@ -6,10 +6,10 @@ use Rattle.words.specs.Choice.{_and_}
 use Rattle.entries.specs.Entry.{SHARED, MERGEABLE, LEAF, entry, unowned, toFixed, toUnfixed}
 use Rattle.entries.specs.Leaf.{presentAt}
 use Rattle.entries.specs.declared.entry.Entry.{Entry}
-use Rattle.rules.specs.Answers.{done, Outcome, refuse, grant, settle, unless, entered}
+use Rattle.rules.specs.Answers.{done, Outcome, grant, settle, unless, entered}
 use Rattle.rules.specs.Arguments.{isGuest, isHost, twoFrameArguments, oneFrameArguments}
-use Rattle.rules.specs.Leaves.{leafOf, consulted, consult, leafInUse, stillShared}
-use Rattle.rules.specs.Refusals.{GEOMETRY, ARGUMENT, CALLER, OUTSIDE, TYPE, NOT-VALIDATED, FIXED, NOT-FIXED, NO-PLACE, PLACE-TAKEN, LEAF-IN-USE, CONTENTS, STILL-SHARED}
+use Rattle.rules.specs.Leaves.{leafOf, consulted, placed, vacant, leafInUse, stillShared}
+use Rattle.rules.specs.Refusals.{GEOMETRY, ARGUMENT, CALLER, OUTSIDE, TYPE, NOT-VALIDATED, FIXED, NOT-FIXED, LEAF-IN-USE, CONTENTS, STILL-SHARED}
 use Rattle.rules.specs.State.{State, N, sized, frameOf, entryAt, differingAt, withEntry, withWord, withZeros, withCopy}
 
 -- "the leaf frame is zeroed, the owner's word in it is GPA + 1, the entry is FIXED with the leaf's address"
@@ -50,10 +50,9 @@ pmerge s caller hpa1 hpa2 =
     (unless (one .fixed) NOT-FIXED
     (unless (not (two .fixed)) FIXED
     (unless (two .validated) NOT-VALIDATED
-    (consult (consulted s one (two .asid))
+    (vacant (consulted s one (two .asid))
     (unless (eqb (differingAt s (frameOf hpa1) (frameOf hpa2)) 0) CONTENTS
-    (grant done (merging s one (frameOf hpa2) two)))
-    (λ taken. refuse PLACE-TAKEN))))))))))
+    (grant done (merging s one (frameOf hpa2) two))))))))))))
 
 -- "frame 1 is copied to frame 2; entry 2 is asid, MERGEABLE, VALIDATED, unfixed, with the leaf word's address; the leaf word is zeroed"
 unfoldable pub unmerging : State → ℕ → Entry → ℕ → ℕ → ℕ → State
@@ -71,9 +70,8 @@ punmerge s caller hpa1 hpa2 asid =
     entered (entryAt s (frameOf hpa2)) λ two.
     unless (eqb (one .kind) MERGEABLE and eqb (two .kind) SHARED) TYPE
     (unless (one .fixed) NOT-FIXED
-    (consult (consulted s one asid)
-    (refuse NO-PLACE)
-    (λ gpa. grant done (unmerging s (frameOf hpa1) one (frameOf hpa2) asid gpa)))))))))
+    (placed (consulted s one asid) λ gpa.
+    grant done (unmerging s (frameOf hpa1) one (frameOf hpa2) asid gpa))))))))
 
 -- "GPA from that word, FIXED 0, VALIDATED stays; the leaf's entry and frame are zeroed"
 unfoldable pub unfixing : State → ℕ → Entry → ℕ → State
@@ -90,7 +88,6 @@ punfix s caller hpa =
     (entered (entryAt s (frameOf hpa)) λ old.
     unless (eqb (old .kind) MERGEABLE) TYPE
     (unless (old .fixed) NOT-FIXED
-    (consult (consulted s old (old .asid))
-    (refuse NO-PLACE)
-    (λ gpa. unless (not (stillShared s (leafOf old) (old .asid) 512)) STILL-SHARED
-    (grant done (unfixing s (frameOf hpa) old gpa))))))))))
+    (placed (consulted s old (old .asid)) λ gpa.
+    unless (not (stillShared s (leafOf old) (old .asid) 512)) STILL-SHARED
+    (grant done (unfixing s (frameOf hpa) old gpa)))))))))

@@ -93,13 +93,13 @@ pub fn differing(a: &[u64], b: &[u64]) -> u64
     ensures { λ r. ⌜ r ≡ differing (now (a .entry)) (now (b .entry)) (min (length (now (a .entry))) (length (now (b .entry)))) ⌝ }
 {
     let n = if a.len() < b.len() { a.len() } else { b.len() };
-    let mut found: u64 = 0;
+    let mut same: u64 = 0;
     let mut i = 0;
     while i < n {
-        if a[i] != b[i] {
-            found += 1;
+        if a[i] == b[i] {
+            same += 1;
         }
         i += 1;
     }
-    found
+    n as u64 - same
 }
