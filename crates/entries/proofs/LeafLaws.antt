@@ -1,16 +1,15 @@
 -- Leaf words: the word that says present at an address reads so, zero reads absent, and what is read as present is an address.
 -- Assumes nothing.
-use mathlib.Core.Path.{_≡_, refl, sym, _∙_, ap}
+use mathlib.Core.Path.{_≡_, refl}
 use mathlib.Core.Bool.{Bool, true, false, false≢true}
 use Prim.Native.Nat.{ℕ, _+_, _-_, _%_, _<_}
 use native.Mathlib.Omega.{arith}
-use lib.Dec.{eqb, ltb}
-use borrow.Author.Tests.{eqb-true, ltb-true, ne-eqb}
-use Rattle.words.specs.Choice.{pick, _and_}
+use lib.Dec.{eqb}
+use borrow.Author.Tests.{eqb-true, ltb-true}
+use Rattle.words.specs.Choice.{pick}
 use Rattle.words.proofs.ChoiceLaws.{and-left, and-right}
 use Rattle.entries.specs.Entry.{isAddress}
 use Rattle.entries.specs.Leaf.{leafWord, presentAt}
-use Rattle.entries.specs.declared.leaf.LeafWord.{LeafWord}
 use Rattle.entries.specs.declared.leaf.LeafWord.the-variants.{Absent, Present, Misshapen}
 
 -- what an address is, in numbers

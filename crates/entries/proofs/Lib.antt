@@ -1,5 +1,6 @@
--- The laws that the proofs of `entries`, and of the crates above it, cite.
+-- The laws that the proofs of `entries`, and of the crates above it, cite; and the paper's examples.
 pub mod EntryLaws
+pub mod Examples
 pub mod LeafLaws
 pub mod TableLaws
 pub mod Tells

@@ -22,7 +22,7 @@ MERGEABLE = 2
 abbrev pub LEAF : ℕ
 LEAF = 3
 
--- "Addresses are multiples of 4,096 below 2^52."
+-- "Addresses (hpa of a frame, gpa of a guest page) are multiples of 4,096 below 2^52."
 unfoldable pub isAddress : ℕ → Bool
 isAddress a = eqb (a % 4096) 0 and ltb a 4503599627370496
 

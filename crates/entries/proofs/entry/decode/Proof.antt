@@ -1,12 +1,11 @@
-use Rattle.entries.specs.Entry.{decoded}
-use Rattle.words.specs.Choice.{pick, _and_}
+-- `entries::entry::decode` meets its contract: each branch is a case of the definition, and the fields and their test are what
+-- the two calls promise.
+-- Assumes nothing.
 use borrow.Author.Needs.{needs}
+use Rattle.words.specs.Choice.{pick, _and_}
+use Rattle.entries.specs.Entry.{decoded}
 use Rattle.entries.proofs.entry.decode.Statement.{statement}
 use Rattle.entries.proofs.entry.decode.Tie as tie
-use Rattle.entries.proofs.entry.decode.Reads as reads
-use Rattle.entries.proofs.entry.decode.Lts as lts
-use Rattle.entries.proofs.entry.Entry.well_formed.Reads as well-formed-reads
-use Rattle.entries.proofs.entry.fields.Reads as fields-reads
 
 fields-requires : tie.Need-fields-requires
 fields-requires c κs = search needs

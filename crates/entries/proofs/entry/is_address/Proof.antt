@@ -1,13 +1,14 @@
-use Rattle.entries.specs.Entry.{isAddress}
+-- `entries::entry::is_address` meets its contract, which is its code.
+-- Assumes nothing.
+use mathlib.Core.Path.{refl}
 use Rattle.words.specs.Choice.{_and_}
+use Rattle.entries.specs.Entry.{isAddress}
 use Rattle.entries.proofs.entry.is_address.Statement.{statement}
 use Rattle.entries.proofs.entry.is_address.Tie as tie
-use Rattle.entries.proofs.entry.is_address.Reads as reads
-use Rattle.entries.proofs.entry.is_address.Lts as lts
 
 returns : tie.Need-returns
 unfolding isAddress _and_
-returns c = cc
+returns c = refl
 
 pub is-address-spec : {M : Type 1} → statement M
 is-address-spec = tie.close (tie.spec returns)

@@ -1,12 +1,12 @@
-use Rattle.entries.specs.Leaf.{leafWord}
-use Rattle.words.specs.Choice.{pick}
-use borrow.Author.Tests.{eq-eqb, ne-eqb}
+-- `entries::leaf::leaf_word` meets its contract: each return is a case of the definition, and an odd word is at least 1, so that
+-- the difference does not wrap.
+-- Assumes nothing.
 use borrow.Author.Needs.{needs}
+use borrow.Author.Tests.{eq-eqb, ne-eqb}
+use Rattle.words.specs.Choice.{pick}
+use Rattle.entries.specs.Leaf.{leafWord}
 use Rattle.entries.proofs.leaf.leaf_word.Statement.{statement}
 use Rattle.entries.proofs.leaf.leaf_word.Tie as tie
-use Rattle.entries.proofs.leaf.leaf_word.Reads as reads
-use Rattle.entries.proofs.leaf.leaf_word.Lts as lts
-use Rattle.entries.proofs.entry.is_address.Reads as is-address-reads
 
 returns : tie.Need-returns
 unfolding leafWord pick

@@ -1,12 +1,13 @@
+-- `entries::table::is_whole` meets its contract, which is its code.
+-- Assumes nothing.
+use mathlib.Core.Path.{refl}
 use Rattle.entries.specs.Table.{isWhole}
 use Rattle.entries.proofs.table.is_whole.Statement.{statement}
 use Rattle.entries.proofs.table.is_whole.Tie as tie
-use Rattle.entries.proofs.table.is_whole.Reads as reads
-use Rattle.entries.proofs.table.is_whole.Lts as lts
 
 returns : tie.Need-returns
 unfolding isWhole
-returns c = cc
+returns c = refl
 
 pub is-whole-spec : {M : Type 1} → statement M
 is-whole-spec = tie.close (tie.spec returns)

@@ -1,14 +1,14 @@
-use Rattle.entries.specs.Table.{putEntry, covered}
-use Rattle.words.specs.Choice.{pick}
-use borrow.Author.Tests.{lt-ltb, le-ltb}
+-- `entries::table::put` meets its contract: each return is a case of the definition, and both words of a frame that the table
+-- covers lie in the table.
+-- Assumes nothing.
 use native.Mathlib.Omega.{arith}
 use lib.ListN.{length-set}
 use borrow.Author.Needs.{needs}
+use borrow.Author.Tests.{lt-ltb, le-ltb}
+use Rattle.words.specs.Choice.{pick}
+use Rattle.entries.specs.Table.{putEntry, covered}
 use Rattle.entries.proofs.table.put.Statement.{statement}
 use Rattle.entries.proofs.table.put.Tie as tie
-use Rattle.entries.proofs.table.put.Reads as reads
-use Rattle.entries.proofs.table.put.Lts as lts
-use Rattle.entries.proofs.entry.Entry.encode.Reads as encode-reads
 
 encode-requires : tie.Need-encode-requires
 encode-requires c κs = search needs

@@ -1,12 +1,12 @@
-use Rattle.entries.specs.Table.{entryIn, covered}
-use Rattle.words.specs.Choice.{pick}
-use borrow.Author.Tests.{lt-ltb, le-ltb}
+-- `entries::table::read` meets its contract: each return is a case of the definition, and both words of a frame that the table
+-- covers lie in the table.
+-- Assumes nothing.
 use borrow.Author.Needs.{needs}
+use borrow.Author.Tests.{lt-ltb, le-ltb}
+use Rattle.words.specs.Choice.{pick}
+use Rattle.entries.specs.Table.{entryIn, covered}
 use Rattle.entries.proofs.table.read.Statement.{statement}
 use Rattle.entries.proofs.table.read.Tie as tie
-use Rattle.entries.proofs.table.read.Reads as reads
-use Rattle.entries.proofs.table.read.Lts as lts
-use Rattle.entries.proofs.entry.decode.Reads as decode-reads
 
 mul-word0 : tie.Need-mul-word0
 mul-word0 c = search needs
@@ -34,7 +34,7 @@ decode-requires c κs = search needs
 
 returns : tie.Need-returns
 unfolding entryIn pick covered
-returns c = rw (lt-ltb _ _ (c .before .before .before .if1 .taken), ← c .decode .ensures)
+returns c = rw (c .decode .ensures, lt-ltb _ _ (c .before .before .before .if1 .taken))
 
 returns-2 : tie.Need-returns-2
 unfolding entryIn pick covered

@@ -1,13 +1,10 @@
-use Rattle.entries.specs.Entry.{addressFits}
-use Rattle.words.specs.Choice.{_and_, _or_}
+-- `entries::entry::Entry::address_fits` meets its contract, which is its code, with what the calls promise for three of the tests.
+-- Assumes nothing.
 use borrow.Author.Needs.{needs}
+use Rattle.words.specs.Choice.{_and_, _or_}
+use Rattle.entries.specs.Entry.{addressFits}
 use Rattle.entries.proofs.entry.Entry.address_fits.Statement.{statement}
 use Rattle.entries.proofs.entry.Entry.address_fits.Tie as tie
-use Rattle.entries.proofs.entry.Entry.address_fits.Reads as reads
-use Rattle.entries.proofs.entry.Entry.address_fits.Lts as lts
-use Rattle.entries.proofs.entry.is_address.Reads as is-address-reads
-use Rattle.entries.proofs.entry.is_owned.Reads as is-owned-reads
-use Rattle.entries.proofs.entry.is_unowned.Reads as is-unowned-reads
 
 is-unowned-requires : tie.Need-is-unowned-requires
 is-unowned-requires c κs = search needs
@@ -20,7 +17,12 @@ is-address-requires c κs = search needs
 
 returns : tie.Need-returns
 unfolding addressFits _and_ _or_
-returns c = rw (c .before .before .is-address .ensures, c .before .before .before .is-owned .ensures, c .before .before .before .before .before .is-unowned .ensures)
+returns c =
+    rw (
+      c .before .before .is-address .ensures,
+      c .before .before .before .is-owned .ensures,
+      c .before .before .before .before .before .is-unowned .ensures,
+    )
 
 pub address-fits-spec : {M : Type 1} → statement M
 address-fits-spec =

@@ -1,12 +1,10 @@
-use Rattle.entries.specs.Entry.{asidFits}
-use Rattle.words.specs.Choice.{_and_, _or_}
+-- `entries::entry::Entry::asid_fits` meets its contract, which is its code, with what the calls promise for the tests of the type.
+-- Assumes nothing.
 use borrow.Author.Needs.{needs}
+use Rattle.words.specs.Choice.{_and_, _or_}
+use Rattle.entries.specs.Entry.{asidFits}
 use Rattle.entries.proofs.entry.Entry.asid_fits.Statement.{statement}
 use Rattle.entries.proofs.entry.Entry.asid_fits.Tie as tie
-use Rattle.entries.proofs.entry.Entry.asid_fits.Reads as reads
-use Rattle.entries.proofs.entry.Entry.asid_fits.Lts as lts
-use Rattle.entries.proofs.entry.is_owned.Reads as is-owned-reads
-use Rattle.entries.proofs.entry.is_unowned.Reads as is-unowned-reads
 
 is-unowned-requires : tie.Need-is-unowned-requires
 is-unowned-requires c κs = search needs

@@ -1,12 +1,11 @@
-use Rattle.entries.specs.Entry.{encoded}
+-- `entries::entry::Entry::encode` meets its contract, which is its code: a bit is at most 1, so that no sum in word 0 wraps.
+-- Assumes nothing.
 use native.Mathlib.Omega.{arith}
 use borrow.Author.Needs.{needs}
-use Rattle.entries.proofs.EntryLaws.{bit-small}
+use Rattle.entries.specs.Entry.{encoded}
+use Rattle.entries.proofs.EntryLaws.{is-bit}
 use Rattle.entries.proofs.entry.Entry.encode.Statement.{statement}
 use Rattle.entries.proofs.entry.Entry.encode.Tie as tie
-use Rattle.entries.proofs.entry.Entry.encode.Reads as reads
-use Rattle.entries.proofs.entry.Entry.encode.Lts as lts
-use Rattle.entries.proofs.entry.bit.Reads as bit-reads
 
 mul-t4 : tie.Need-mul-t4
 mul-t4 c = search needs
@@ -18,26 +17,19 @@ bit-requires : tie.Need-bit-requires
 bit-requires c κs = search needs
 
 mul-t7 : tie.Need-mul-t7
-mul-t7 c = omega (arith, c .bit .ensures, bit-small (c .before .before .before .args .self .validated))
+mul-t7 c = omega (arith, is-bit _ _ (c .bit .ensures))
 
 add-t8 : tie.Need-add-t8
-add-t8 c = omega (arith, c .bit .ensures, bit-small (c .before .before .before .args .self .validated))
+add-t8 c = omega (arith, is-bit _ _ (c .bit .ensures))
 
 bit-requires-2 : tie.Need-bit-requires-2
 bit-requires-2 c κs = search needs
 
 mul-t10 : tie.Need-mul-t10
-mul-t10 c = omega (arith, c .bit2 .ensures, bit-small (c .before .before .before .before .args .self .fixed))
+mul-t10 c = omega (arith, is-bit _ _ (c .bit2 .ensures))
 
 add-t11 : tie.Need-add-t11
-add-t11 c =
-    omega (
-      arith,
-      c .bit2 .ensures,
-      bit-small (c .before .before .before .before .args .self .fixed),
-      c .before .bit .ensures,
-      bit-small (c .before .before .before .before .args .self .validated),
-    )
+add-t11 c = omega (arith, is-bit _ _ (c .before .bit .ensures), is-bit _ _ (c .bit2 .ensures))
 
 returns : tie.Need-returns
 unfolding encoded

@@ -1,12 +1,10 @@
-use Rattle.entries.specs.Entry.{flagsFit}
-use Rattle.words.specs.Choice.{_and_, _or_}
+-- `entries::entry::Entry::flags_fit` meets its contract, which is its code, with what the calls promise for the tests of the type.
+-- Assumes nothing.
 use borrow.Author.Needs.{needs}
+use Rattle.words.specs.Choice.{_and_, _or_}
+use Rattle.entries.specs.Entry.{flagsFit}
 use Rattle.entries.proofs.entry.Entry.flags_fit.Statement.{statement}
 use Rattle.entries.proofs.entry.Entry.flags_fit.Tie as tie
-use Rattle.entries.proofs.entry.Entry.flags_fit.Reads as reads
-use Rattle.entries.proofs.entry.Entry.flags_fit.Lts as lts
-use Rattle.entries.proofs.entry.is_owned.Reads as is-owned-reads
-use Rattle.entries.proofs.entry.is_unowned.Reads as is-unowned-reads
 
 is-unowned-requires : tie.Need-is-unowned-requires
 is-unowned-requires c κs = search needs
@@ -16,7 +14,11 @@ is-owned-requires c κs = search needs
 
 returns : tie.Need-returns
 unfolding flagsFit _and_ _or_
-returns c = rw (c .before .before .before .is-owned .ensures, c .before .before .before .before .before .before .is-unowned .ensures)
+returns c =
+    rw (
+      c .before .before .before .is-owned .ensures,
+      c .before .before .before .before .before .before .is-unowned .ensures,
+    )
 
 pub flags-fit-spec : {M : Type 1} → statement M
 flags-fit-spec = tie.close (tie.spec is-unowned-requires is-owned-requires returns)

@@ -1,12 +1,13 @@
+-- `entries::entry::Entry::to_fixed` meets its contract, which is its code.
+-- Assumes nothing.
+use mathlib.Core.Path.{refl}
 use Rattle.entries.specs.Entry.{toFixed, entry}
 use Rattle.entries.proofs.entry.Entry.to_fixed.Statement.{statement}
 use Rattle.entries.proofs.entry.Entry.to_fixed.Tie as tie
-use Rattle.entries.proofs.entry.Entry.to_fixed.Reads as reads
-use Rattle.entries.proofs.entry.Entry.to_fixed.Lts as lts
 
 returns : tie.Need-returns
 unfolding toFixed entry
-returns c = cc
+returns c = refl
 
 pub to-fixed-spec : {M : Type 1} → statement M
 to-fixed-spec = tie.close (tie.spec returns)

@@ -1,12 +1,13 @@
+-- `entries::entry::Entry::to_moved` meets its contract, which is its code.
+-- Assumes nothing.
+use mathlib.Core.Path.{refl}
 use Rattle.entries.specs.Entry.{toMoved, entry}
 use Rattle.entries.proofs.entry.Entry.to_moved.Statement.{statement}
 use Rattle.entries.proofs.entry.Entry.to_moved.Tie as tie
-use Rattle.entries.proofs.entry.Entry.to_moved.Reads as reads
-use Rattle.entries.proofs.entry.Entry.to_moved.Lts as lts
 
 returns : tie.Need-returns
 unfolding toMoved entry
-returns c = cc
+returns c = refl
 
 pub to-moved-spec : {M : Type 1} → statement M
 to-moved-spec = tie.close (tie.spec returns)

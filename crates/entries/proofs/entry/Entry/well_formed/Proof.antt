@@ -1,13 +1,10 @@
-use Rattle.entries.specs.Entry.{wellFormed}
-use Rattle.words.specs.Choice.{_and_}
+-- `entries::entry::Entry::well_formed` meets its contract: the three tests that it joins promise those of the definition.
+-- Assumes nothing.
 use borrow.Author.Needs.{needs}
+use Rattle.words.specs.Choice.{_and_}
+use Rattle.entries.specs.Entry.{wellFormed}
 use Rattle.entries.proofs.entry.Entry.well_formed.Statement.{statement}
 use Rattle.entries.proofs.entry.Entry.well_formed.Tie as tie
-use Rattle.entries.proofs.entry.Entry.well_formed.Reads as reads
-use Rattle.entries.proofs.entry.Entry.well_formed.Lts as lts
-use Rattle.entries.proofs.entry.Entry.address_fits.Reads as address-fits-reads
-use Rattle.entries.proofs.entry.Entry.asid_fits.Reads as asid-fits-reads
-use Rattle.entries.proofs.entry.Entry.flags_fit.Reads as flags-fit-reads
 
 asid-fits-requires : tie.Need-asid-fits-requires
 asid-fits-requires c κs = search needs
