@@ -1,6 +1,7 @@
 // An entry of the RMP and its two words.
 ghost use mathlib.Core.Path.{_≡_};
-ghost use Rattle.entries.specs.Entry.{isAddress, isOwned, isUnowned, asidFits, flagsFit, addressFits, wellFormed, fields, decoded, bit, encoded, toValidated, toFixed, toUnfixed, toMoved};
+ghost use Rattle.entries.specs.Entry.{isAddress, isOwned, isUnowned, asidFits, flagsFit, addressFits, wellFormed, fields, decoded};
+ghost use Rattle.entries.specs.Entry.{bit, encoded, toValidated, toFixed, toUnfixed, toMoved};
 
 // The types of a page.
 pub const SHARED: u64 = 0;

@@ -34,12 +34,16 @@ module _ (P : Outcome → Type 0) (s : State) where
     unfolding unless
     checked t n v f = chosen t v (refuse n) f (λ e. turned-down n)
 
-    pub decoded-by : (d : Decoded) (rest : Entry → Verdict) → ((e : Entry) → d ≡ Good e → P (settle s (rest e))) → P (settle s (entered d rest))
+    pub decoded-by :
+        (d : Decoded) (rest : Entry → Verdict) → ((e : Entry) → d ≡ Good e → P (settle s (rest e)))
+        → P (settle s (entered d rest))
     unfolding entered
     decoded-by (Good e) rest f = f e refl
     decoded-by Bad rest f = turned-down _
 
-    pub placed-by : (w : LeafWord) (rest : ℕ → Verdict) → ((gpa : ℕ) → w ≡ Present gpa → P (settle s (rest gpa))) → P (settle s (placed w rest))
+    pub placed-by :
+        (w : LeafWord) (rest : ℕ → Verdict) → ((gpa : ℕ) → w ≡ Present gpa → P (settle s (rest gpa)))
+        → P (settle s (placed w rest))
     unfolding placed
     placed-by Misshapen rest f = turned-down _
     placed-by Absent rest f = turned-down _

@@ -15,7 +15,8 @@ use Rattle.entries.specs.declared.entry.Decoded.the-variants.{Good, Bad}
 use Rattle.entries.specs.declared.leaf.LeafWord.the-variants.{Absent, Present}
 use Rattle.rules.specs.Access.{unfixedAccess, fixedAccess, coveredAccess, access, read, write}
 use Rattle.rules.specs.Answers.{Told, refused, done, word, count, Outcome, outcome, Verdict, settle, unless}
-use Rattle.rules.specs.Arguments.{isGuest, isHost, updateArguments, validateArguments, twoFrameArguments, oneFrameArguments, accessArguments, mayAccess}
+use Rattle.rules.specs.Arguments.{isGuest, isHost, updateArguments, validateArguments, twoFrameArguments, oneFrameArguments}
+use Rattle.rules.specs.Arguments.{accessArguments, mayAccess}
 use Rattle.rules.specs.Assignment.{assigning, closing, rmpupdate, validating, opening, pvalidate}
 use Rattle.rules.specs.Census.{Tally, total, stopped, tally, reported, census}
 use Rattle.rules.specs.Leaves.{leafOf, isLeaf, consulted, leafInUse, stillShared}
@@ -119,10 +120,16 @@ pub record Unfixed (s : State) (caller hpa : ℕ) (old : Entry) (gpa : ℕ) : Ty
 -- ---- READ and WRITE: the four ways in which an access is accepted
 pub data Way (s : State) (writes : Bool) (caller gpa frame gtype : ℕ) : Type 0 where
   above : N s ≤ frame → gtype ≡ SHARED → Way s writes caller gpa frame gtype
-  shared : (page : Entry) → frame < N s → entryAt s frame ≡ Good page → page .kind ≡ SHARED → gtype ≡ SHARED → Way s writes caller gpa frame gtype
-  own : (page : Entry) → frame < N s → entryAt s frame ≡ Good page → page .kind ≡ gtype → eqb gtype SHARED ≡ false → page .fixed ≡ false
+  shared :
+      (page : Entry) → frame < N s → entryAt s frame ≡ Good page → page .kind ≡ SHARED → gtype ≡ SHARED
+      → Way s writes caller gpa frame gtype
+  own :
+      (page : Entry) → frame < N s → entryAt s frame ≡ Good page → page .kind ≡ gtype → eqb gtype SHARED ≡ false
+      → page .fixed ≡ false
       → page .asid ≡ caller → page .address ≡ gpa → page .validated ≡ true → Way s writes caller gpa frame gtype
-  merged : (page : Entry) → frame < N s → entryAt s frame ≡ Good page → page .kind ≡ gtype → eqb gtype SHARED ≡ false → page .fixed ≡ true
+  merged :
+      (page : Entry) → frame < N s → entryAt s frame ≡ Good page → page .kind ≡ gtype → eqb gtype SHARED ≡ false
+      → page .fixed ≡ true
       → writes ≡ false → consulted s page caller ≡ Present gpa → Way s writes caller gpa frame gtype
 
 pub record Accessed (s : State) (writes : Bool) (caller gpa hpa gtype ntype index : ℕ) : Type 0 where

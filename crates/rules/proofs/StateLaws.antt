@@ -13,7 +13,9 @@ use borrow.Author.Tests.{leb-true}
 use Rattle.words.specs.Choice.{_and_}
 use Rattle.words.specs.Frame.{frameCount}
 use Rattle.words.proofs.ChoiceLaws.{and-left, and-right}
-use Rattle.words.proofs.FrameLaws.{count-putWord, count-zeroFrame, count-copyFrame, framed-putWord, framed-zeroFrame, framed-copyFrame, word-outside, word-past, word-put-same, word-put-other-frame, word-put-other-index, word-zero-same, word-zero-other, word-copy-same, word-copy-other, same-words}
+use Rattle.words.proofs.FrameLaws.{count-putWord, count-zeroFrame, count-copyFrame, framed-putWord, framed-zeroFrame, framed-copyFrame}
+use Rattle.words.proofs.FrameLaws.{word-outside, word-past, word-put-same, word-put-other-frame, word-put-other-index, word-zero-same}
+use Rattle.words.proofs.FrameLaws.{word-zero-other, word-copy-same, word-copy-other, same-words}
 use Rattle.entries.specs.Entry.{unowned, wellFormed}
 use Rattle.entries.specs.Table.{covered}
 use Rattle.entries.specs.declared.entry.Entry.{Entry}
@@ -119,7 +121,9 @@ module _ (s : State) (f : ℕ) where
   entry-after-copy to g = refl
 
 -- "Empty table: all words zero": every frame is SHARED
-pub entry-of-empty : (k : ℕ) (memory : List ℕ) (f : ℕ) → f < N (state (replicate k 0) memory) → entryAt (state (replicate k 0) memory) f ≡ Good unowned
+pub entry-of-empty :
+    (k : ℕ) (memory : List ℕ) (f : ℕ) → f < N (state (replicate k 0) memory)
+    → entryAt (state (replicate k 0) memory) f ≡ Good unowned
 unfolding entryAt N
 entry-of-empty k memory f h = entry-empty k f h
 

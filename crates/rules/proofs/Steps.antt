@@ -14,7 +14,8 @@ use Rattle.rules.specs.Calls.{Call, RMPUPDATE, PVALIDATE, PFIX, PMERGE, 
 use Rattle.rules.specs.Census.{census}
 use Rattle.rules.specs.Merging.{fixing, merging, unmerging, unfixing}
 use Rattle.rules.specs.State.{State, withEntry, withWord, withZeros, withCopy}
-use Rattle.rules.proofs.Passed.{rmpupdate-cases, pvalidate-cases, pfix-cases, pmerge-cases, punmerge-cases, punfix-cases, read-cases, write-cases, census-cases}
+use Rattle.rules.proofs.Passed.{rmpupdate-cases, pvalidate-cases, pfix-cases, pmerge-cases, punmerge-cases, punfix-cases, read-cases}
+use Rattle.rules.proofs.Passed.{write-cases, census-cases}
 use Rattle.rules.proofs.StateLaws.{SameSize, size-refl, size-trans, size-entry, size-word, size-zeros, size-copy}
 
 -- ---- a refusal changes nothing

@@ -52,6 +52,10 @@ unfoldable pub fixedPage : State
 fixedPage =
     state (0xe0007 ∷ 0x2000 ∷ 0x60009 ∷ 0x60000 ∷ 0x30000 ∷ 0 ∷ []) (page 3 0x2a ++ (page 3 0x2a ++ page 7 0x50001))
 
+-- that frame unfixed again
+unfoldable pub unfixedPage : State
+unfixedPage = state (0x60007 ∷ 0x50000 ∷ 0x60009 ∷ 0x60000 ∷ 0 ∷ 0 ∷ []) (page 3 0x2a ++ (page 3 0x2a ++ blank))
+
 -- frame 1 merged into it
 unfoldable pub mergedPage : State
 mergedPage =
@@ -80,7 +84,7 @@ examples =
     ∷ refuses (state (fixedPage .table) (page 3 0x2a ++ (page 3 0x2a ++ twoWords 7 0x50001 9 0x70001))) (PMERGE 0 0 0x1000) 14
     ∷ accepts mergedPage (PUNMERGE 0 0 0x1000 9) done fixedPage
     ∷ refuses mergedPage (PUNMERGE 0 0 0x1000 8) 13
-    ∷ accepts fixedPage (PUNFIX 0 0) done (state (0x60007 ∷ 0x50000 ∷ 0x60009 ∷ 0x60000 ∷ 0 ∷ 0 ∷ []) (page 3 0x2a ++ (page 3 0x2a ++ blank)))
+    ∷ accepts fixedPage (PUNFIX 0 0) done unfixedPage
     ∷ refuses mergedPage (PUNFIX 0 0) 17
     ∷ accepts mergedPage (READ 9 0x60000 0 2 2 3) (word 0x2a) mergedPage
     ∷ refuses mergedPage (READ 9 0x50000 0 2 2 3) 8

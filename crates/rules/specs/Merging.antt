@@ -9,7 +9,8 @@ use Rattle.entries.specs.declared.entry.Entry.{Entry}
 use Rattle.rules.specs.Answers.{done, Outcome, grant, settle, unless, entered}
 use Rattle.rules.specs.Arguments.{isGuest, isHost, twoFrameArguments, oneFrameArguments}
 use Rattle.rules.specs.Leaves.{leafOf, consulted, placed, vacant, leafInUse, stillShared}
-use Rattle.rules.specs.Refusals.{GEOMETRY, ARGUMENT, CALLER, OUTSIDE, TYPE, NOT-VALIDATED, FIXED, NOT-FIXED, LEAF-IN-USE, CONTENTS, STILL-SHARED}
+use Rattle.rules.specs.Refusals.{GEOMETRY, ARGUMENT, CALLER, OUTSIDE, TYPE, NOT-VALIDATED, FIXED, NOT-FIXED, LEAF-IN-USE, CONTENTS}
+use Rattle.rules.specs.Refusals.{STILL-SHARED}
 use Rattle.rules.specs.State.{State, N, sized, frameOf, entryAt, differingAt, withEntry, withWord, withZeros, withCopy}
 
 -- "the leaf frame is zeroed, the owner's word in it is GPA + 1, the entry is FIXED with the leaf's address"

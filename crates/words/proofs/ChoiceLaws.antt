@@ -30,10 +30,6 @@ module _ (s t : Bool) where
   unfolding _and_
   and-right = elim s [ true ↦ λ e. e | false ↦ λ e. absurd (false≢true e) ]
 
-  pub and-both : s ≡ true → t ≡ true → s and t ≡ true
-  unfolding _and_
-  and-both p q = rw (p, q)
-
   pub or-cases : s or t ≡ true → (s ≡ true) ⊎ (t ≡ true)
   unfolding _or_
   or-cases = elim s [ true ↦ λ e. inl refl | false ↦ λ e. inr e ]

@@ -11,7 +11,8 @@ use lib.Seq.{getD-set-same, getD-set-other}
 use Rattle.words.specs.Run.{part, pasted, differing}
 use Rattle.words.specs.Frame.{frameCount, isFramed, wordIn, putWord, zeroFrame, copyFrame, differingIn}
 use Rattle.words.proofs.ChoiceLaws.{lt-or-le, bounds-kept, first-not, second-not, bounds-either}
-use Rattle.words.proofs.RunLaws.{length-pasted, pasted-not, pasted-there, pasted-before, pasted-after, length-part, part-at, within-fits, within-not-from, within-not-to, none-differ}
+use Rattle.words.proofs.RunLaws.{length-pasted, pasted-not, pasted-there, pasted-before, pasted-after, length-part, part-at}
+use Rattle.words.proofs.RunLaws.{within-fits, within-not-from, within-not-to, none-differ}
 
 -- a frame that memory has is a whole run of it, and one that memory does not have is not
 pub frame-whole : (m : List ℕ) (f : ℕ) → f < frameCount m → 512 * f + 512 ≤ length m
@@ -41,12 +42,16 @@ module _ (m : List ℕ) (f i : ℕ) where
   word-either = bounds-either f (frameCount m) i 512 _ _
 
 -- words of two frames are equal if those below 512 are
-alike : (m n : List ℕ) (f g i : ℕ) → f < frameCount m → g < frameCount n → (i < 512 → getD m (512 * f + i) 0 ≡ getD n (512 * g + i) 0) → wordIn m f i ≡ wordIn n g i
+alike :
+    (m n : List ℕ) (f g i : ℕ) → f < frameCount m → g < frameCount n
+    → (i < 512 → getD m (512 * f + i) 0 ≡ getD n (512 * g + i) 0) → wordIn m f i ≡ wordIn n g i
 alike m n f g i h k same =
     ⊎-elim (λ l. word-is m f i h l ∙ same l ∙ sym (word-is n g i k l)) (λ l. word-past m f i l ∙ sym (word-past n g i l)) (lt-or-le i 512)
 
 -- the word of one frame in two memories of one length
-unchanged : (m n : List ℕ) (f i : ℕ) → length m ≡ length n → (i < 512 → getD m (512 * f + i) 0 ≡ getD n (512 * f + i) 0) → wordIn m f i ≡ wordIn n f i
+unchanged :
+    (m n : List ℕ) (f i : ℕ) → length m ≡ length n → (i < 512 → getD m (512 * f + i) 0 ≡ getD n (512 * f + i) 0)
+    → wordIn m f i ≡ wordIn n f i
 unfolding frameCount
 unchanged m n f i e same =
     ⊎-elim (λ h. alike m n f f i (rw e h) h same) (λ h. word-outside m f i (rw e h) ∙ sym (word-outside n f i h)) (lt-or-le f (frameCount n))
@@ -59,7 +64,9 @@ module _ (m : List ℕ) (f : ℕ) (run : List ℕ) (long : length run ≡ 512) w
   pasted-other : (g i : ℕ) → g ≢ f → wordIn (pasted m (512 * f) run) g i ≡ wordIn m g i
   pasted-other g i apart =
       unchanged (pasted m (512 * f) run) m g i (length-pasted m (512 * f) run)
-      (λ l. ⊎-elim (λ b. pasted-before m (512 * f) run (512 * g + i) (omega arith)) (λ b. pasted-after m (512 * f) run (512 * g + i) (omega (arith, apart))) (lt-or-le g f))
+      (λ l. ⊎-elim (λ b. pasted-before m (512 * f) run (512 * g + i) (omega arith))
+      (λ b. pasted-after m (512 * f) run (512 * g + i) (omega (arith, apart)))
+      (lt-or-le g f))
 
 -- memories of one length have as many frames, and both or neither are whole
 same-count : (m n : List ℕ) → length m ≡ length n → frameCount m ≡ frameCount n
@@ -105,7 +112,8 @@ module _ (m : List ℕ) (f i v : ℕ) where
   put-other : (g j : ℕ) → (i < 512 → j < 512 → 512 * g + j ≢ 512 * f + i) → wordIn (putWord m f i v) g j ≡ wordIn m g j
   put-other g j apart =
       put-either (λ n. wordIn n g j ≡ wordIn m g j)
-      (λ h l. unchanged (set m (512 * f + i) v) m g j (length-set m (512 * f + i) v) (λ k. getD-set-other m (512 * f + i) (512 * g + j) v 0 (apart l k)))
+      (λ h l. unchanged (set m (512 * f + i) v) m g j (length-set m (512 * f + i) v)
+      (λ k. getD-set-other m (512 * f + i) (512 * g + j) v 0 (apart l k)))
       refl
 
   pub word-put-other-frame : (g j : ℕ) → g ≢ f → wordIn (putWord m f i v) g j ≡ wordIn m g j
@@ -184,7 +192,8 @@ module _ (m : List ℕ) (f g : ℕ) where
 
 -- two frames compared
 module _ (m : List ℕ) (f g : ℕ) where
-  pub differing-is : f < frameCount m → g < frameCount m → differingIn m f g ≡ differing (part m (512 * f) 512) (part m (512 * g) 512) 512
+  pub differing-is :
+      f < frameCount m → g < frameCount m → differingIn m f g ≡ differing (part m (512 * f) 512) (part m (512 * g) 512) 512
   unfolding differingIn
   differing-is = bounds-kept f (frameCount m) g (frameCount m) _ _
 

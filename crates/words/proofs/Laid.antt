@@ -24,7 +24,9 @@ module _ (old : List ℕ) (at : ℕ) (run : List ℕ) where
 
   -- the next word above, or below, is stored: v is the run's word there
   module _ (lo hi : ℕ) (words : List ℕ) (v : ℕ) where
-    pub laid-up : lo ≤ hi → at + hi < length words → v ≡ getD run hi 0 → Laid old at run lo hi words → Laid old at run lo (hi + 1) (set words (at + hi) v)
+    pub laid-up :
+        lo ≤ hi → at + hi < length words → v ≡ getD run hi 0 → Laid old at run lo hi words
+        → Laid old at run lo (hi + 1) (set words (at + hi) v)
     laid-up order room e was =
         record {
           long = length-set words (at + hi) v ∙ was .long;
@@ -35,7 +37,9 @@ module _ (old : List ℕ) (at : ℕ) (run : List ℕ) where
               (lt-or-le k hi);
         }
 
-    pub laid-down : lo < hi → at + lo < length words → v ≡ getD run lo 0 → Laid old at run (lo + 1) hi words → Laid old at run lo hi (set words (at + lo) v)
+    pub laid-down :
+        lo < hi → at + lo < length words → v ≡ getD run lo 0 → Laid old at run (lo + 1) hi words
+        → Laid old at run lo hi (set words (at + lo) v)
     laid-down order room e was =
         record {
           long = length-set words (at + lo) v ∙ was .long;
@@ -47,7 +51,8 @@ module _ (old : List ℕ) (at : ℕ) (run : List ℕ) where
         }
 
   -- all of the run is laid
-  pub laid-all : (words : List ℕ) (n : ℕ) → length run ≡ n → at + n ≤ length old → Laid old at run 0 n words → words ≡ pasted old at run
+  pub laid-all :
+      (words : List ℕ) (n : ℕ) → length run ≡ n → at + n ≤ length old → Laid old at run 0 n words → words ≡ pasted old at run
   laid-all words n whole fits was =
       ext-getD 0 words (pasted old at run) (was .long ∙ sym (length-pasted old at run)) same
     where

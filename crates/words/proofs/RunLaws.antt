@@ -18,7 +18,9 @@ use Rattle.words.specs.Run.{part, pasted, copied, copiedWithin, differin
 use Rattle.words.proofs.ChoiceLaws.{lt-or-le, pick-true, pick-false}
 
 -- a run that fits, and one that does not
-pub pasted-fits : (words : List ℕ) (at : ℕ) (run : List ℕ) → at + length run ≤ length words → pasted words at run ≡ take at words ++ (run ++ drop (at + length run) words)
+pub pasted-fits :
+    (words : List ℕ) (at : ℕ) (run : List ℕ) → at + length run ≤ length words
+    → pasted words at run ≡ take at words ++ (run ++ drop (at + length run) words)
 unfolding pasted
 pasted-fits words at run h = pick-true _ _ (le-leb _ _ h)
 
@@ -27,7 +29,10 @@ unfolding pasted
 pasted-not words at run h = pick-false _ _ (lt-leb _ _ h)
 
 pub length-pasted : (words : List ℕ) (at : ℕ) (run : List ℕ) → length (pasted words at run) ≡ length words
-length-pasted words at run = ⊎-elim (λ h. rw (pasted-not words at run h)) (λ h. rw (pasted-fits words at run h) (simp (length-append, length-take, length-drop) (omega arith))) (lt-or-le (length words) (at + length run))
+length-pasted words at run =
+    ⊎-elim (λ h. rw (pasted-not words at run h))
+    (λ h. rw (pasted-fits words at run h) (simp (length-append, length-take, length-drop) (omega arith)))
+    (lt-or-le (length words) (at + length run))
 
 module _ (words : List ℕ) (at : ℕ) (run : List ℕ) (fits : at + length run ≤ length words) where
   before : length (take at words) ≡ at
@@ -64,7 +69,8 @@ pub pasted-before : (words : List ℕ) (at : ℕ) (run : List ℕ) (k : ℕ) →
 pasted-before words at run k h =
     ⊎-elim (λ l. rw (pasted-not words at run l)) (λ l. fits-before words at run l k h) (lt-or-le (length words) (at + length run))
 
-pub pasted-after : (words : List ℕ) (at : ℕ) (run : List ℕ) (k : ℕ) → at + length run ≤ k → getD (pasted words at run) k 0 ≡ getD words k 0
+pub pasted-after :
+    (words : List ℕ) (at : ℕ) (run : List ℕ) (k : ℕ) → at + length run ≤ k → getD (pasted words at run) k 0 ≡ getD words k 0
 pasted-after words at run k h =
     ⊎-elim (λ l. rw (pasted-not words at run l)) (λ l. fits-after words at run l k h) (lt-or-le (length words) (at + length run))
 
@@ -105,7 +111,9 @@ pub lent-part : (words : List ℕ) (at n : ℕ) → take (at + n - at) (drop at 
 unfolding part
 lent-part words at n = let all : at + n - at ≡ n = omega arith in rw all
 
-pub put-back : (words : List ℕ) (at n : ℕ) (run : List ℕ) → at + n ≤ length words → length run ≡ n → putMid at (at + n - at) words run ≡ pasted words at run
+pub put-back :
+    (words : List ℕ) (at n : ℕ) (run : List ℕ) → at + n ≤ length words → length run ≡ n
+    → putMid at (at + n - at) words run ≡ pasted words at run
 put-back words at n run h e = rw (pasted-fits words at run (omega arith), post-is at (at + n) words (omega arith), e)
 
 -- none of no words differ, and the next word differs or not
@@ -127,7 +135,9 @@ unfolding differing pick
 none-differ a b zero e k h = omega arith
 none-differ a b (suc n) e k h = go (eqb (getD a n 0) (getD b n 0)) refl e (none-differ a b n) (lt-or-le k n)
   where
-    go : (t : Bool) → eqb (getD a n 0) (getD b n 0) ≡ t → differing a b n + pick t 0 1 ≡ 0 → (differing a b n ≡ 0 → (k : ℕ) → k < n → getD a k 0 ≡ getD b k 0) → (k < n) ⊎ (n ≤ k) → getD a k 0 ≡ getD b k 0
+    go :
+        (t : Bool) → eqb (getD a n 0) (getD b n 0) ≡ t → differing a b n + pick t 0 1 ≡ 0
+        → (differing a b n ≡ 0 → (k : ℕ) → k < n → getD a k 0 ≡ getD b k 0) → (k < n) ⊎ (n ≤ k) → getD a k 0 ≡ getD b k 0
     go t q z rest (inl l) = rest (omega arith) k l
     go true q z rest (inr l) = let i : k ≡ n = omega arith in rw i (eqb-true _ _ q)
     go false q z rest (inr l) = omega arith
