@@ -36,14 +36,14 @@ read-bit (suc (suc x)) l = omega arith
 
 -- a word with no spare bit set is made of its digits: each quotient is a digit and the next quotient
 whole-word :
-    (w : ℕ) → w / 1048576 ≡ 0
-    → w % 65536 % 65536 + 65536 * (w / 65536 % 4 % 4) + 262144 * (w / 262144 % 2) + 524288 * (w / 524288 % 2) ≡ w
+    (w : ℕ) → w / 0x100000 ≡ 0
+    → w % 0x10000 % 0x10000 + 0x10000 * (w / 0x10000 % 4 % 4) + 0x40000 * (w / 0x40000 % 2) + 0x80000 * (w / 0x80000 % 2) ≡ w
 whole-word w none =
-    joined (w / 65536) (w / 262144) (w / 524288) _ _ _ _ (omega arith) (omega arith) (omega arith) (omega arith)
+    joined (w / 0x10000) (w / 0x40000) (w / 0x80000) _ _ _ _ (omega arith) (omega arith) (omega arith) (omega arith)
   where
     joined :
-        (x y z asid kind v f : ℕ) → w ≡ asid + 65536 * x → x ≡ kind + 4 * y → y ≡ v + 2 * z → z ≡ f
-        → asid + 65536 * kind + 262144 * v + 524288 * f ≡ w
+        (x y z asid kind v f : ℕ) → w ≡ asid + 0x10000 * x → x ≡ kind + 4 * y → y ≡ v + 2 * z → z ≡ f
+        → asid + 0x10000 * kind + 0x40000 * v + 0x80000 * f ≡ w
     joined x y z asid kind v f p q r s = omega arith
 
 -- a good entry was chosen by a test that passed
@@ -54,7 +54,7 @@ chosen false q = absurd (false≢true (cc))
 
 -- encode after decode is the two words, for every pair that decodes
 module _ (n w0 w1 : ℕ) (e : Entry) where
-  pub decode-good : decoded n w0 w1 ≡ Good e → (w0 / 1048576 ≡ 0) × (fields w0 w1 ≡ e) × (wellFormed n e ≡ true)
+  pub decode-good : decoded n w0 w1 ≡ Good e → (w0 / 0x100000 ≡ 0) × (fields w0 w1 ≡ e) × (wellFormed n e ≡ true)
   unfolding decoded
   decode-good g =
       let q = chosen _ g in
@@ -65,19 +65,19 @@ module _ (n w0 w1 : ℕ) (e : Entry) where
   unfolding encoded fields entry
   encode-decode g =
       let q = decode-good g in
-      rw (← q .1, read-bit (w0 / 262144 % 2) (omega arith), read-bit (w0 / 524288 % 2) (omega arith), whole-word w0 (q .0))
+      rw (← q .1, read-bit (w0 / 0x40000 % 2) (omega arith), read-bit (w0 / 0x80000 % 2) (omega arith), whole-word w0 (q .0))
 
 -- word 0 of four fields that are small enough has them for its digits, from the lowest, and no spare bit set
 record Digits (w asid kind v f : ℕ) : Type 0 where
-  asid-digit : w % 65536 ≡ asid
-  kind-digit : w / 65536 % 4 ≡ kind
-  validated-digit : w / 262144 % 2 ≡ v
-  fixed-digit : w / 524288 % 2 ≡ f
-  no-spare : w / 1048576 ≡ 0
+  asid-digit : w % 0x10000 ≡ asid
+  kind-digit : w / 0x10000 % 4 ≡ kind
+  validated-digit : w / 0x40000 % 2 ≡ v
+  fixed-digit : w / 0x80000 % 2 ≡ f
+  no-spare : w / 0x100000 ≡ 0
 
 digits :
-    (asid kind v f : ℕ) → asid < 65536 → kind < 4 → v ≤ 1 → f ≤ 1
-    → Digits (asid % 65536 + 65536 * (kind % 4) + 262144 * v + 524288 * f) asid kind v f
+    (asid kind v f : ℕ) → asid < 0x10000 → kind < 4 → v ≤ 1 → f ≤ 1
+    → Digits (asid % 0x10000 + 0x10000 * (kind % 4) + 0x40000 * v + 0x80000 * f) asid kind v f
 digits asid kind v f a k p q =
     record {
       asid-digit = omega arith;

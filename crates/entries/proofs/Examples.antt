@@ -4,7 +4,7 @@ use mathlib.Core.Path.{_≡_, refl}
 use mathlib.Core.List.{map}
 use lib.ListN.{length}
 use Rattle.words.specs.Choice.{pick, _and_, _or_}
-use Rattle.entries.specs.Entry.{isAddress, isOwned, isUnowned, entry, asidFits, flagsFit, addressFits, wellFormed, fields, decoded}
+use Rattle.entries.specs.Entry.{isAddress, frameOf, isGuest, isOwned, isUnowned, entry, asidFits, flagsFit, addressFits, wellFormed, fields, decoded}
 use Rattle.entries.specs.Leaf.{leafWord}
 use Rattle.entries.specs.Examples.{Example, ofEntry, ofLeaf, judged, examples}
 
@@ -14,6 +14,6 @@ sixteen = refl
 
 -- The one statement: the definitions say of each example what the paper says.
 pub as-the-paper-says : map (λ (x : Example). judged (x .given)) examples ≡ map (λ (x : Example). x .says) examples
-unfolding examples judged ofEntry ofLeaf decoded wellFormed asidFits flagsFit addressFits isOwned isUnowned isAddress
+unfolding examples judged isGuest frameOf ofEntry ofLeaf decoded wellFormed asidFits flagsFit addressFits isOwned isUnowned isAddress
     fields entry leafWord pick _and_ _or_
 as-the-paper-says = refl

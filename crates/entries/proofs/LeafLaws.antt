@@ -18,7 +18,7 @@ module _ (a : ℕ) (h : isAddress a ≡ true) where
   unfolding isAddress
   address-whole = eqb-true _ _ (and-left _ _ h)
 
-  pub address-small : a < 4503599627370496
+  pub address-small : a < 0x10000000000000
   unfolding isAddress
   address-small = ltb-true _ _ (and-right _ _ h)
 

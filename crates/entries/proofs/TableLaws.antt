@@ -1,5 +1,5 @@
 -- The table as a map from frames to entries: an entry that was put is read back, every other frame's entry stays, and so do the
--- table's sizes; what is read is well formed; an empty table reads unowned. With the four definitions of `specs/Table` these are
+-- table's sizes; what is read is well formed; an empty table reads as zero entries. With the four definitions of `specs/Table` these are
 -- all that knows an entry's words in the table.
 -- Assumes nothing.
 use mathlib.Core.Path.{_≡_, refl}
@@ -13,7 +13,7 @@ use lib.Seq.{getD-set-same, getD-set-other}
 use borrow.Author.Tests.{lt-ltb, le-ltb, ltb-true}
 use Rattle.words.specs.Choice.{pick, _and_, _or_}
 use Rattle.words.proofs.ChoiceLaws.{lt-or-le, pick-true, pick-false}
-use Rattle.entries.specs.Entry.{isOwned, isUnowned, unowned, entry, asidFits, flagsFit, addressFits, wellFormed}
+use Rattle.entries.specs.Entry.{isOwned, isUnowned, zeroEntry, entry, asidFits, flagsFit, addressFits, wellFormed}
 use Rattle.entries.specs.Entry.{fields, decoded, encoded}
 use Rattle.entries.specs.Table.{covered, isWhole, entryIn, putEntry}
 use Rattle.entries.specs.declared.entry.Entry.{Entry}
@@ -81,11 +81,11 @@ unfolding entryIn
 entry-good t f e g = let q = chosen _ g in (ltb-true _ _ (q .0), decode-good _ _ _ e (q .1) .2)
 
 -- an empty table: all words zero
-pub decode-zero : (n : ℕ) → decoded n 0 0 ≡ Good unowned
-unfolding decoded fields unowned entry wellFormed asidFits flagsFit addressFits isOwned isUnowned pick _and_ _or_
+pub decode-zero : (n : ℕ) → decoded n 0 0 ≡ Good zeroEntry
+unfolding decoded fields zeroEntry entry wellFormed asidFits flagsFit addressFits isOwned isUnowned pick _and_ _or_
 decode-zero n = refl
 
-pub entry-empty : (k f : ℕ) → f < covered (replicate k 0) → entryIn (replicate k 0) f ≡ Good unowned
+pub entry-empty : (k f : ℕ) → f < covered (replicate k 0) → entryIn (replicate k 0) f ≡ Good zeroEntry
 unfolding entryIn covered
 entry-empty k f h =
     let word1 : 2 * f + 1 < k = omega (arith, length-replicate {A = ℕ} k 0) in

@@ -4,12 +4,12 @@
 use mathlib.Core.Path.{_≡_, refl, sym, _∙_}
 use mathlib.Core.Bool.{Bool, true, false, false≢true}
 use mathlib.Core.Logic.{_⊎_, inl, inr, ⊎-elim}
-use Prim.Native.Nat.{ℕ, _/_, _≤_, _<_}
+use Prim.Native.Nat.{ℕ, _≤_, _<_}
 use native.Mathlib.Omega.{arith}
 use borrow.Author.Tests.{eqb-true, leb-true, ltb-true, le-leb, lt-ltb, not-true}
 use Rattle.words.specs.Choice.{_and_, _or_}
 use Rattle.words.proofs.ChoiceLaws.{and-left, and-right, or-cases}
-use Rattle.entries.specs.Entry.{SHARED, PRIVATE, MERGEABLE, LEAF, isAddress, isOwned, isUnowned, entry}
+use Rattle.entries.specs.Entry.{SHARED, PRIVATE, MERGEABLE, LEAF, isAddress, frameOf, isGuest, isOwned, isUnowned, entry}
 use Rattle.entries.specs.Entry.{asidFits, flagsFit, addressFits, wellFormed, toMoved}
 use Rattle.entries.specs.declared.entry.Entry.{Entry}
 
@@ -33,6 +33,15 @@ pub unowned-kinds : (kind : ℕ) → isUnowned kind ≡ true → (kind ≡ SHARE
 unfolding isUnowned
 unowned-kinds kind = either (eqb-true _ _) (eqb-true _ _)
 
+-- the numbers of guests
+pub guest-range : (asid : ℕ) → isGuest asid ≡ true → (1 ≤ asid) × (asid ≤ 511)
+unfolding isGuest
+guest-range asid = both (leb-true _ _) (leb-true _ _)
+
+pub in-range : (asid : ℕ) → 1 ≤ asid → asid < 512 → isGuest asid ≡ true
+unfolding isGuest _and_
+in-range asid one small = rw (le-leb 1 asid one, le-leb asid 511 (omega arith))
+
 pub record Tells (n : ℕ) (e : Entry) : Type 0 where
   pub asid-small : e .asid < 512
   pub kind-small : e .kind < 4
@@ -42,7 +51,7 @@ pub record Tells (n : ℕ) (e : Entry) : Type 0 where
   pub validated-owned : e .validated ≡ true → isOwned (e .kind) ≡ true
   pub fixed-kind : e .fixed ≡ true → e .kind ≡ MERGEABLE
   pub fixed-validated : e .fixed ≡ true → e .validated ≡ true
-  pub fixed-leaf : e .fixed ≡ true → e .address / 4096 < n
+  pub fixed-leaf : e .fixed ≡ true → frameOf (e .address) < n
   pub address-fits : isAddress (e .address) ≡ true
 
 zero-address : isAddress 0 ≡ true
@@ -65,11 +74,11 @@ module _ (n : ℕ) (e : Entry) where
   abbrev OfAsid : Type 0
   OfAsid =
       ((isUnowned (e .kind) ≡ true) × (e .asid ≡ 0))
-      ⊎ (((isOwned (e .kind) ≡ true) × (1 ≤ e .asid)) × (e .asid ≤ 511))
+      ⊎ ((isOwned (e .kind) ≡ true) × ((1 ≤ e .asid) × (e .asid ≤ 511)))
 
   of-asid : asidFits e ≡ true → OfAsid
   unfolding asidFits
-  of-asid = either (both same (eqb-true _ _)) (both (both same (leb-true _ _)) (leb-true _ _))
+  of-asid = either (both same (eqb-true _ _)) (both same (guest-range _))
 
   abbrev OfFlags : Type 0
   OfFlags =
@@ -84,7 +93,7 @@ module _ (n : ℕ) (e : Entry) where
   abbrev OfAddress : Type 0
   OfAddress =
       ((isUnowned (e .kind) ≡ true) × (e .address ≡ 0))
-      ⊎ (((isOwned (e .kind) ≡ true) × (isAddress (e .address) ≡ true)) × ((e .fixed ≡ false) ⊎ (e .address / 4096 < n)))
+      ⊎ (((isOwned (e .kind) ≡ true) × (isAddress (e .address) ≡ true)) × ((e .fixed ≡ false) ⊎ (frameOf (e .address) < n)))
 
   of-address : addressFits n e ≡ true → OfAddress
   unfolding addressFits
@@ -95,7 +104,7 @@ module _ (n : ℕ) (e : Entry) where
     from-asid : (e .asid < 512) × (e .kind < 4)
     from-asid =
         ⊎-elim (λ u. ⊎-elim (λ k. omega arith) (λ k. omega arith) (unowned-kinds (e .kind) (u .0)))
-        (λ o. ⊎-elim (λ k. omega arith) (λ k. omega arith) (owned-kinds (e .kind) (o .0 .0)))
+        (λ o. ⊎-elim (λ k. omega arith) (λ k. omega arith) (owned-kinds (e .kind) (o .0)))
         a
 
     from-fixed : e .fixed ≡ true → (isOwned (e .kind) ≡ true) × (e .kind ≡ MERGEABLE) × (e .validated ≡ true)
@@ -109,8 +118,8 @@ module _ (n : ℕ) (e : Entry) where
         record {
           asid-small = from-asid .0;
           kind-small = from-asid .1;
-          owned-asid = λ o. ⊎-elim (λ u. not-both (e .kind) o (u .0)) (λ q. q .0 .1) a;
-          unowned-asid = λ u. ⊎-elim (λ q. q .1) (λ o. not-both (e .kind) (o .0 .0) u) a;
+          owned-asid = λ o. ⊎-elim (λ u. not-both (e .kind) o (u .0)) (λ q. q .1 .0) a;
+          unowned-asid = λ u. ⊎-elim (λ q. q .1) (λ o. not-both (e .kind) (o .0) u) a;
           unowned-address = λ u. ⊎-elim (λ q. q .1) (λ o. not-both (e .kind) (o .0 .0) u) w;
           validated-owned = λ v. ⊎-elim (λ u. false-not-true (u .0 .1) v) (λ o. o .0) f;
           fixed-kind = λ h. from-fixed h .1;
@@ -136,14 +145,14 @@ module _ (n : ℕ) where
       → wellFormed n (entry asid kind validated false gpa) ≡ true
   unfolding wellFormed asidFits flagsFit addressFits entry _and_ _or_
   page-fits asid kind validated gpa o one small a =
-      rw (not-unowned kind o, o, le-leb 1 asid one, le-leb asid 511 (omega arith), a)
+      rw (not-unowned kind o, o, in-range asid one small, a)
 
   pub fixed-fits :
-      (asid leaf : ℕ) → 1 ≤ asid → asid < 512 → isAddress leaf ≡ true → leaf / 4096 < n
+      (asid leaf : ℕ) → 1 ≤ asid → asid < 512 → isAddress leaf ≡ true → frameOf leaf < n
       → wellFormed n (entry asid MERGEABLE true true leaf) ≡ true
   unfolding wellFormed asidFits flagsFit addressFits entry isOwned isUnowned _and_ _or_
   fixed-fits asid leaf one small a below =
-      rw (le-leb 1 asid one, le-leb asid 511 (omega arith), a, lt-ltb (leaf / 4096) n below)
+      rw (in-range asid one small, a, lt-ltb (frameOf leaf) n below)
 
 -- a fixed page, moved: MERGEABLE, VALIDATED and unfixed
 pub moved-is :

@@ -1,5 +1,5 @@
 -- 01, "Sizes and layout": an entry, its two words, and when it is well formed. All are over the code's `Entry`, a record of the five
--- fields; `address` is word 1: the guest's address, or where FIXED the leaf's.
+-- fields. `kind` is the paper's TYPE; `address` is word 1: the guest's address, or where FIXED the leaf's.
 use mathlib.Core.Bool.{Bool, true, false, not}
 use Prim.Native.Nat.{ℕ, _+_, _*_, _/_, _%_}
 use lib.Dec.{leb, ltb, eqb}
@@ -23,8 +23,22 @@ abbrev pub LEAF : ℕ
 LEAF = 3
 
 -- "Addresses (hpa of a frame, gpa of a guest page) are multiples of 4,096 below 2^52."
+abbrev pub addressLimit : ℕ
+addressLimit = 0x10000000000000
+
 unfoldable pub isAddress : ℕ → Bool
-isAddress a = eqb (a % 4096) 0 and ltb a 4503599627370496
+isAddress a = eqb (a % 4096) 0 and ltb a addressLimit
+
+-- "Frame number = hpa / 4,096."
+unfoldable pub frameOf : ℕ → ℕ
+frameOf hpa = hpa / 4096
+
+-- "Guest numbers (ASID) are 1 to 511; 0 is the host."
+unfoldable pub isParty : ℕ → Bool
+isParty asid = leb asid 511
+
+unfoldable pub isGuest : ℕ → Bool
+isGuest asid = leb 1 asid and leb asid 511
 
 -- types of pages that belong to a guest, and to none
 unfoldable pub isOwned : ℕ → Bool
@@ -33,17 +47,17 @@ isOwned kind = eqb kind PRIVATE or eqb kind MERGEABLE
 unfoldable pub isUnowned : ℕ → Bool
 isUnowned kind = eqb kind SHARED or eqb kind LEAF
 
--- an entry from its fields, in the words' order; and the entry of two zero words
+-- an entry from its fields, in the words' order; and the entry of two zero words, which is SHARED
 unfoldable pub entry : ℕ → ℕ → Bool → Bool → ℕ → Entry
 entry asid kind validated fixed address =
     record { asid = asid; kind = kind; validated = validated; fixed = fixed; address = address }
 
-unfoldable pub unowned : Entry
-unowned = entry 0 SHARED false false 0
+unfoldable pub zeroEntry : Entry
+zeroEntry = entry 0 SHARED false false 0
 
 -- "SHARED and LEAF have ASID 0 .. PRIVATE and MERGEABLE have ASID 1 to 511"
 unfoldable pub asidFits : Entry → Bool
-asidFits e = (isUnowned (e .kind) and eqb (e .asid) 0) or (isOwned (e .kind) and leb 1 (e .asid) and leb (e .asid) 511)
+asidFits e = (isUnowned (e .kind) and eqb (e .asid) 0) or (isOwned (e .kind) and isGuest (e .asid))
 
 -- ".. both flags 0 .. PRIVATE is never FIXED; FIXED needs VALIDATED"
 unfoldable pub flagsFit : Entry → Bool
@@ -55,34 +69,36 @@ flagsFit e =
 unfoldable pub addressFits : ℕ → Entry → Bool
 addressFits n e =
     (isUnowned (e .kind) and eqb (e .address) 0)
-    or (isOwned (e .kind) and isAddress (e .address) and (not (e .fixed) or ltb (e .address / 4096) n))
+    or (isOwned (e .kind) and isAddress (e .address) and (not (e .fixed) or ltb (frameOf (e .address)) n))
 
 -- "Well formed", in a table of n frames
 unfoldable pub wellFormed : ℕ → Entry → Bool
 wellFormed n e = asidFits e and flagsFit e and addressFits n e
 
--- "Entry, word 0: bits 15:0 ASID, 17:16 TYPE, 18 VALIDATED, 19 FIXED, the rest zero. Word 1: GPA."
+-- "Entry, word 0: bits 15:0 ASID, 17:16 TYPE, 18 VALIDATED, 19 FIXED, the rest zero. Word 1: GPA." These are the fields, whatever the
+-- rest is
 unfoldable pub fields : ℕ → ℕ → Entry
 fields word0 word1 =
-    entry (word0 % 65536) (word0 / 65536 % 4) (eqb (word0 / 262144 % 2) 1) (eqb (word0 / 524288 % 2) 1) word1
+    entry (word0 % 0x10000) (word0 / 0x10000 % 4) (eqb (word0 / 0x40000 % 2) 1) (eqb (word0 / 0x80000 % 2) 1) word1
 
--- the entry that two words hold, in a table of n frames, or bad
+-- the entry that two words hold, in a table of n frames: "the rest zero", and well formed; else bad
 unfoldable pub decoded : ℕ → ℕ → ℕ → Decoded
 decoded n word0 word1 =
-    pick (eqb (word0 / 1048576) 0 and wellFormed n (fields word0 word1)) (Good (fields word0 word1)) Bad
+    pick (eqb (word0 / 0x100000) 0 and wellFormed n (fields word0 word1)) (Good (fields word0 word1)) Bad
 
--- the two words of an entry
+-- the two words of an entry, a flag as a bit
 unfoldable pub bit : Bool → ℕ
 bit b = pick b 1 0
 
 unfoldable pub encoded : Entry → Words
 encoded e =
     record {
-      0 = e .asid % 65536 + 65536 * (e .kind % 4) + 262144 * bit (e .validated) + 524288 * bit (e .fixed);
+      0 = e .asid % 0x10000 + 0x10000 * (e .kind % 4) + 0x40000 * bit (e .validated) + 0x80000 * bit (e .fixed);
       1 = e .address;
     }
 
--- "validating, fixing or moving it gives a new value"
+-- "validating, fixing or moving it gives a new value". To unfix a page is to put it back at the guest's address; to move it, to give it
+-- to another guest, as PUNMERGE's entry 2 is entry 1 moved.
 unfoldable pub toValidated : Entry → Entry
 toValidated e = entry (e .asid) (e .kind) true (e .fixed) (e .address)
 

@@ -10,8 +10,8 @@ use Rattle.entries.specs.declared.leaf.LeafWord.the-variants.{Absent, Pr
 
 -- what an example gives: the two words of an entry, or the word of a leaf
 pub data Given : Type 0 where
-  twoWords : ℕ → ℕ → Given
-  leafPage : ℕ → Given
+  entryWords : ℕ → ℕ → Given
+  leafPageWord : ℕ → Given
 
 -- what the paper, or a definition, says of it
 pub data Says : Type 0 where
@@ -40,26 +40,26 @@ ofLeaf (Present a) = present a
 ofLeaf Misshapen = misshapen
 
 unfoldable pub judged : Given → Says
-judged (twoWords word0 word1) = ofEntry (decoded 8 word0 word1)
-judged (leafPage w) = ofLeaf (leafWord w)
+judged (entryWords word0 word1) = ofEntry (decoded 8 word0 word1)
+judged (leafPageWord w) = ofLeaf (leafWord w)
 
 -- the examples with what the paper says of each
 unfoldable pub examples : List Example
 examples =
-    twoWords 0x0 0x0 is good
-    ∷ twoWords 0x20007 0x50000 is good
-    ∷ twoWords 0x60007 0x50000 is good
-    ∷ twoWords 0xe0007 0x3000 is good
-    ∷ twoWords 0x101ff 0x1000 is good
-    ∷ twoWords 0x30000 0x0 is good
-    ∷ twoWords 0xe0007 0x8000 is bad
-    ∷ twoWords 0xa0007 0x3000 is bad
-    ∷ twoWords 0x10000 0x1000 is bad
-    ∷ twoWords 0x10200 0x1000 is bad
-    ∷ twoWords 0x30000 0x1000 is bad
-    ∷ twoWords 0x100000 0x0 is bad
-    ∷ leafPage 0x50001 is present 0x50000
-    ∷ leafPage 0x50000 is absent
-    ∷ leafPage 0x50003 is misshapen
-    ∷ leafPage 0x10000000000001 is misshapen
+    entryWords 0x0 0x0 is good
+    ∷ entryWords 0x20007 0x50000 is good
+    ∷ entryWords 0x60007 0x50000 is good
+    ∷ entryWords 0xe0007 0x3000 is good
+    ∷ entryWords 0x101ff 0x1000 is good
+    ∷ entryWords 0x30000 0x0 is good
+    ∷ entryWords 0xe0007 0x8000 is bad
+    ∷ entryWords 0xa0007 0x3000 is bad
+    ∷ entryWords 0x10000 0x1000 is bad
+    ∷ entryWords 0x10200 0x1000 is bad
+    ∷ entryWords 0x30000 0x1000 is bad
+    ∷ entryWords 0x100000 0x0 is bad
+    ∷ leafPageWord 0x50001 is present 0x50000
+    ∷ leafPageWord 0x50000 is absent
+    ∷ leafPageWord 0x50003 is misshapen
+    ∷ leafPageWord 0x10000000000001 is misshapen
     ∷ []

@@ -2,7 +2,7 @@
 use Prim.Native.Nat.{ℕ, _+_, _-_, _%_}
 use lib.Dec.{eqb}
 use Rattle.words.specs.Choice.{pick}
-use Rattle.entries.specs.Entry.{isAddress}
+use Rattle.entries.specs.Entry.{addressLimit, isAddress}
 use Rattle.entries.specs.declared.leaf.LeafWord.{LeafWord}
 use Rattle.entries.specs.declared.leaf.LeafWord.the-variants.{Absent, Present, Misshapen}
 
@@ -13,4 +13,4 @@ leafWord w = pick (eqb (w % 2) 0) Absent (pick (isAddress (w - 1)) (Present (w -
 
 -- "GPA + 1", for an address, which is below 2^52
 unfoldable pub presentAt : ℕ → ℕ
-presentAt gpa = gpa % 4503599627370496 + 1
+presentAt gpa = gpa % addressLimit + 1

@@ -1,6 +1,7 @@
 // An entry of the RMP and its two words.
 ghost use mathlib.Core.Path.{_≡_};
-ghost use Rattle.entries.specs.Entry.{isAddress, isOwned, isUnowned, asidFits, flagsFit, addressFits, wellFormed, fields, decoded};
+ghost use Rattle.entries.specs.Entry.{isAddress, frameOf, isParty, isGuest, isOwned, isUnowned};
+ghost use Rattle.entries.specs.Entry.{asidFits, flagsFit, addressFits, wellFormed, fields, decoded};
 ghost use Rattle.entries.specs.Entry.{bit, encoded, toValidated, toFixed, toUnfixed, toMoved};
 
 // The types of a page.
@@ -30,11 +31,35 @@ pub enum Decoded {
 // The two words of an entry.
 pub struct Words(pub u64, pub u64);
 
-// A multiple of 4,096 below 2^52.
+// Addresses are below 2^52.
+pub const ADDRESS_LIMIT: u64 = 0x10000000000000;
+
+// A multiple of 4,096 below that.
 pub fn is_address(a: u64) -> bool
     ensures { λ r. ⌜ r ≡ isAddress a ⌝ }
 {
-    (a % 4096 == 0) & (a < 4503599627370496)
+    (a % 4096 == 0) & (a < ADDRESS_LIMIT)
+}
+
+// The number of the frame at an address.
+pub fn frame_of(hpa: u64) -> usize
+    ensures { λ r. ⌜ r ≡ frameOf hpa ⌝ }
+{
+    (hpa / 4096) as usize
+}
+
+// A guest's number, or 0, the host's.
+pub fn is_party(asid: u64) -> bool
+    ensures { λ r. ⌜ r ≡ isParty asid ⌝ }
+{
+    asid <= 511
+}
+
+// A guest's number.
+pub fn is_guest(asid: u64) -> bool
+    ensures { λ r. ⌜ r ≡ isGuest asid ⌝ }
+{
+    (1 <= asid) & (asid <= 511)
 }
 
 // PRIVATE or MERGEABLE: a type of pages that belong to a guest.
@@ -62,8 +87,7 @@ impl Entry {
     fn asid_fits(self) -> bool
         ensures { λ r. ⌜ r ≡ asidFits self ⌝ }
     {
-        (is_unowned(self.kind) & (self.asid == 0))
-            | (is_owned(self.kind) & (1 <= self.asid) & (self.asid <= 511))
+        (is_unowned(self.kind) & (self.asid == 0)) | (is_owned(self.kind) & is_guest(self.asid))
     }
 
     // Whether the flags are ones that the type allows.
@@ -81,7 +105,7 @@ impl Entry {
         (is_unowned(self.kind) & (self.address == 0))
             | (is_owned(self.kind)
                 & is_address(self.address)
-                & (!self.fixed | (self.address / 4096 < frames as u64)))
+                & (!self.fixed | (frame_of(self.address) < frames)))
     }
 
     // Whether a table of so many frames may hold this entry.
@@ -96,10 +120,10 @@ impl Entry {
         ensures { λ r. ⌜ r ≡ encoded self ⌝ }
     {
         Words(
-            self.asid % 65536
-                + 65536 * (self.kind % 4)
-                + 262144 * bit(self.validated)
-                + 524288 * bit(self.fixed),
+            self.asid % 0x10000
+                + 0x10000 * (self.kind % 4)
+                + 0x40000 * bit(self.validated)
+                + 0x80000 * bit(self.fixed),
             self.address,
         )
     }
@@ -162,10 +186,10 @@ fn fields(word0: u64, word1: u64) -> Entry
     ensures { λ r. ⌜ r ≡ fields word0 word1 ⌝ }
 {
     Entry {
-        asid: word0 % 65536,
-        kind: word0 / 65536 % 4,
-        validated: word0 / 262144 % 2 == 1,
-        fixed: word0 / 524288 % 2 == 1,
+        asid: word0 % 0x10000,
+        kind: word0 / 0x10000 % 4,
+        validated: word0 / 0x40000 % 2 == 1,
+        fixed: word0 / 0x80000 % 2 == 1,
         address: word1,
     }
 }
@@ -175,6 +199,6 @@ pub fn decode(frames: usize, word0: u64, word1: u64) -> Decoded
     ensures { λ r. ⌜ r ≡ decoded frames word0 word1 ⌝ }
 {
     let e = fields(word0, word1);
-    let good = (word0 / 1048576 == 0) & e.well_formed(frames);
+    let good = (word0 / 0x100000 == 0) & e.well_formed(frames);
     if good { Decoded::Good(e) } else { Decoded::Bad }
 }

@@ -29,5 +29,5 @@ pub fn leaf_word(word: u64) -> LeafWord
 pub fn present_at(gpa: u64) -> u64
     ensures { λ r. ⌜ r ≡ presentAt gpa ⌝ }
 {
-    gpa % 4503599627370496 + 1
+    gpa % entry::ADDRESS_LIMIT + 1
 }

@@ -2,17 +2,18 @@
 -- of the chain. `no` is the refusals' case, given once for a whole call.
 -- Assumes nothing.
 use mathlib.Core.Path.{_≡_, refl}
-use mathlib.Core.Bool.{Bool, true, false}
+use mathlib.Core.Bool.{Bool, true, false, not}
 use Prim.Native.Nat.{ℕ}
+use borrow.Author.Tests.{not-true}
 use Rattle.words.specs.Choice.{pick}
 use Rattle.entries.specs.declared.entry.Entry.{Entry}
 use Rattle.entries.specs.declared.entry.Decoded.{Decoded}
 use Rattle.entries.specs.declared.entry.Decoded.the-variants.{Good, Bad}
 use Rattle.entries.specs.declared.leaf.LeafWord.{LeafWord}
 use Rattle.entries.specs.declared.leaf.LeafWord.the-variants.{Absent, Present, Misshapen}
-use Rattle.rules.specs.Answers.{Told, refused, Outcome, outcome, Verdict, refuse, grant, settle, unless, entered}
+use Rattle.rules.specs.Answers.{Told, refused, Outcome, outcome, Verdict, refuse, grant, settle, unless, when, begins, entered}
 use Rattle.rules.specs.Leaves.{placed, vacant}
-use Rattle.rules.specs.State.{State}
+use Rattle.rules.specs.State.{State, sized}
 
 module _ (P : Outcome → Type 0) (s : State) where
   pub granted : (a : Told) (u : State) → P (outcome a u) → P (settle s (grant a u))
@@ -33,6 +34,18 @@ module _ (P : Outcome → Type 0) (s : State) where
     pub checked : (t : Bool) (n : ℕ) (v : Verdict) → (t ≡ true → P (settle s v)) → P (settle s (unless t n v))
     unfolding unless
     checked t n v f = chosen t v (refuse n) f (λ e. turned-down n)
+
+    pub checked-not : (t : Bool) (n : ℕ) (v : Verdict) → (t ≡ false → P (settle s v)) → P (settle s (when t n v))
+    unfolding when
+    checked-not t n v f = checked (not t) n v (λ h. f (not-true t h))
+
+    pub begun :
+        (arguments party inside : Bool) (v : Verdict)
+        → (sized s ≡ true → arguments ≡ true → party ≡ true → inside ≡ true → P (settle s v))
+        → P (settle s (begins s arguments party inside v))
+    unfolding begins
+    begun arguments party inside v f =
+        checked _ _ _ λ size. checked _ _ _ λ a. checked _ _ _ λ p. checked _ _ _ λ i. f size a p i
 
     pub decoded-by :
         (d : Decoded) (rest : Entry → Verdict) → ((e : Entry) → d ≡ Good e → P (settle s (rest e)))

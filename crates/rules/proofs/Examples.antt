@@ -1,12 +1,18 @@
--- The definitions give the worked examples of the nine calls: answer, table and memory of each, computed.
+-- The definitions give the worked examples of the nine calls, answer, table and memory of each, and those of places: computed.
 -- Assumes nothing.
 use mathlib.Core.Path.{_≡_, refl}
 use mathlib.Core.List.{map}
 use Rattle.rules.specs.Calls.{step}
-use Rattle.rules.specs.Examples.{Example, blank, page, twoWords, owned, unopened, lone, apart, fixedPage, unfixedPage, mergedPage, doubled}
+use Rattle.rules.specs.Census.{placeIn, placesBelow, places}
+use Rattle.rules.specs.Examples.{Example, blank, page, pageOfTwo, owned, unopened, lone, apart, fixedPage, unfixedPage, mergedPage, leafTaken}
 use Rattle.rules.specs.Examples.{examples}
+use Rattle.rules.specs.Examples.{Placed, placeExamples}
 use Rattle.rules.proofs.Computed.{computed}
 
 pub as-worked : map (λ (x : Example). step (x .before) (x .call)) examples ≡ map (λ (x : Example). x .gives) examples
-unfolding computed examples blank page twoWords owned unopened lone apart fixedPage unfixedPage mergedPage doubled
+unfolding computed examples blank page pageOfTwo owned unopened lone apart fixedPage unfixedPage mergedPage leafTaken
 as-worked = refl
+
+pub placed-as-worked : map (λ (x : Placed). places (x .box) (x .guest) (x .gpa)) placeExamples ≡ map (λ (x : Placed). x .number) placeExamples
+unfolding computed places placesBelow placeIn placeExamples blank page pageOfTwo owned unopened mergedPage
+placed-as-worked = refl

@@ -4,26 +4,27 @@
 use mathlib.Core.Path.{_≡_, refl, _∙_}
 use mathlib.Core.Bool.{Bool, true, false, not}
 use Prim.Native.Nat.{ℕ, _<_, _≤_}
-use lib.Dec.{ltb, eqb}
-use borrow.Author.Tests.{eqb-true, eqb-false, ltb-true, ltb-false, not-true}
-use Rattle.words.specs.Choice.{pick, _and_}
+use lib.Dec.{eqb}
+use borrow.Author.Tests.{eqb-true, eqb-false, ltb-true, not-true}
+use Rattle.words.specs.Choice.{pick}
 use Rattle.words.proofs.ChoiceLaws.{and-left, and-right}
-use Rattle.entries.specs.Entry.{SHARED, MERGEABLE, LEAF}
+use Rattle.entries.specs.Entry.{SHARED, MERGEABLE, LEAF, frameOf, isGuest}
 use Rattle.entries.specs.declared.entry.Entry.{Entry}
 use Rattle.entries.specs.declared.entry.Decoded.{Decoded}
 use Rattle.entries.specs.declared.entry.Decoded.the-variants.{Good, Bad}
 use Rattle.entries.specs.declared.leaf.LeafWord.the-variants.{Absent, Present}
 use Rattle.rules.specs.Access.{unfixedAccess, fixedAccess, coveredAccess, access, read, write}
 use Rattle.rules.specs.Answers.{Told, refused, done, word, count, Outcome, outcome, Verdict, settle, unless}
-use Rattle.rules.specs.Arguments.{isGuest, isHost, updateArguments, validateArguments, twoFrameArguments, oneFrameArguments}
-use Rattle.rules.specs.Arguments.{accessArguments, mayAccess}
-use Rattle.rules.specs.Assignment.{assigning, closing, rmpupdate, validating, opening, pvalidate}
+use Rattle.rules.specs.Arguments.{isHost, updateArguments, validateArguments, twoFrameArguments, unmergeArguments}
+use Rattle.rules.specs.Arguments.{oneFrameArguments, accessArguments, mayAccess}
+use Rattle.rules.specs.Assignment.{assigning, updateAnswer, rmpupdate, validating, validateAnswer, pvalidate}
 use Rattle.rules.specs.Census.{Tally, total, stopped, tally, reported, census}
-use Rattle.rules.specs.Leaves.{leafOf, isLeaf, consulted, leafInUse, stillShared}
+use Rattle.rules.specs.Leaves.{leafFrame, isLeaf, consulted, leafInUse, stillShared}
 use Rattle.rules.specs.Merging.{fixing, pfix, merging, pmerge, unmerging, punmerge, unfixing, punfix}
 use Rattle.rules.specs.Refusals.{TYPE}
-use Rattle.rules.specs.State.{State, N, M, sized, frameOf, entryAt, wordAt, differingAt, withWord}
-use Rattle.rules.proofs.Chain.{granted, chosen, turned-down, checked, decoded-by, placed-by, vacant-by}
+use Rattle.rules.specs.State.{State, N, M, sized, covers, entryAt, wordAt, differingAt, withWord}
+use Rattle.rules.proofs.Chain.{granted, chosen, turned-down, checked, checked-not, begun, decoded-by, placed-by, vacant-by}
+use Rattle.rules.proofs.StateLaws.{covered-frame, uncovered-frame}
 
 host-is : (caller : ℕ) → isHost caller ≡ true → caller ≡ 0
 unfolding isHost
@@ -93,8 +94,7 @@ pub record Merged (s : State) (caller hpa1 hpa2 : ℕ) (one two : Entry) : Type 
 -- ---- PUNMERGE
 pub record Unmerged (s : State) (caller hpa1 hpa2 asid : ℕ) (one two : Entry) (gpa : ℕ) : Type 0 where
   pub size : sized s ≡ true
-  pub arguments : twoFrameArguments caller hpa1 hpa2 ≡ true
-  pub guest : isGuest asid ≡ true
+  pub arguments : unmergeArguments caller hpa1 hpa2 asid ≡ true
   pub host : caller ≡ 0
   pub inside1 : frameOf hpa1 < N s
   pub inside2 : frameOf hpa2 < N s
@@ -115,7 +115,7 @@ pub record Unfixed (s : State) (caller hpa : ℕ) (old : Entry) (gpa : ℕ) : Ty
   pub type : old .kind ≡ MERGEABLE
   pub fixed : old .fixed ≡ true
   pub place : consulted s old (old .asid) ≡ Present gpa
-  pub unshared : stillShared s (leafOf old) (old .asid) 512 ≡ false
+  pub unshared : stillShared s (leafFrame old) (old .asid) 512 ≡ false
 
 -- ---- READ and WRITE: the four ways in which an access is accepted
 pub data Way (s : State) (writes : Bool) (caller gpa frame gtype : ℕ) : Type 0 where
@@ -149,42 +149,36 @@ pub record Counted (s : State) (asid n : ℕ) : Type 0 where
 -- ---- a call is refused, or has passed its checks
 module _ (P : Outcome → Type 0) (s : State) (no : (n : ℕ) → P (outcome (refused n) s)) where
   pub rmpupdate-cases : (caller hpa gpa asid kind : ℕ)
-      → ((old : Entry) → Updated s caller hpa gpa asid kind old → P (outcome (closing old) (assigning s (frameOf hpa) old gpa asid kind)))
+      → ((old : Entry) → Updated s caller hpa gpa asid kind old → P (outcome (updateAnswer old) (assigning s (frameOf hpa) old gpa asid kind)))
       → P (rmpupdate s caller hpa gpa asid kind)
   unfolding rmpupdate
   rmpupdate-cases caller hpa gpa asid kind ok =
-      checked P s no _ _ _ λ size.
-      checked P s no _ _ _ λ arguments.
-      checked P s no _ _ _ λ host.
-      checked P s no _ _ _ λ inside.
+      begun P s no _ _ _ _ λ size arguments host inside.
       decoded-by P s no _ _ λ old here.
-      checked P s no _ _ _ λ type.
-      checked P s no _ _ _ λ unfixed.
+      checked-not P s no _ _ _ λ no-leaf.
+      checked-not P s no _ _ _ λ unfixed.
       granted P s _ _
       (ok old
       (record {
         size = size;
         arguments = arguments;
         host = host-is caller host;
-        inside = ltb-true _ _ inside;
+        inside = covered-frame s _ inside;
         here = here;
-        no-leaf = not-true _ type;
-        unfixed = not-true _ unfixed;
+        no-leaf = no-leaf;
+        unfixed = unfixed;
       }))
 
   pub pvalidate-cases : (caller gpa hpa kind : ℕ)
-      → ((old : Entry) → Validated s caller gpa hpa kind old → P (outcome (opening old) (validating s (frameOf hpa) old)))
+      → ((old : Entry) → Validated s caller gpa hpa kind old → P (outcome (validateAnswer old) (validating s (frameOf hpa) old)))
       → P (pvalidate s caller gpa hpa kind)
   unfolding pvalidate
   pvalidate-cases caller gpa hpa kind ok =
-      checked P s no _ _ _ λ size.
-      checked P s no _ _ _ λ arguments.
-      checked P s no _ _ _ λ guest.
-      checked P s no _ _ _ λ inside.
+      begun P s no _ _ _ _ λ size arguments guest inside.
       decoded-by P s no _ _ λ old here.
       checked P s no _ _ _ λ type.
       checked P s no _ _ _ λ owner.
-      checked P s no _ _ _ λ unfixed.
+      checked-not P s no _ _ _ λ unfixed.
       checked P s no _ _ _ λ address.
       granted P s _ _
       (ok old
@@ -192,11 +186,11 @@ module _ (P : Outcome → Type 0) (s : State) (no : (n : ℕ) → P (outcome (re
         size = size;
         arguments = arguments;
         guest = guest-is caller guest;
-        inside = ltb-true _ _ inside;
+        inside = covered-frame s _ inside;
         here = here;
         type = eqb-true _ _ type;
         owner = eqb-true _ _ owner;
-        unfixed = not-true _ unfixed;
+        unfixed = unfixed;
         address = eqb-true _ _ address;
       }))
 
@@ -205,30 +199,27 @@ module _ (P : Outcome → Type 0) (s : State) (no : (n : ℕ) → P (outcome (re
       → P (pfix s caller hpa leaf)
   unfolding pfix
   pfix-cases caller hpa leaf ok =
-      checked P s no _ _ _ λ size.
-      checked P s no _ _ _ λ arguments.
-      checked P s no _ _ _ λ host.
-      checked P s no _ _ _ λ inside.
+      begun P s no _ _ _ _ λ size arguments host inside.
       decoded-by P s no _ _ λ old here.
       decoded-by P s no _ _ λ leafs there.
       checked P s no _ _ _ λ types.
-      checked P s no _ _ _ λ unfixed.
+      checked-not P s no _ _ _ λ unfixed.
       checked P s no _ _ _ λ validated.
-      checked P s no _ _ _ λ unused.
+      checked-not P s no _ _ _ λ unused.
       granted P s _ _
       (ok old
       (record {
         size = size;
         arguments = arguments;
         host = host-is caller host;
-        inside = ltb-true _ _ (and-left _ _ inside);
-        leaf-inside = ltb-true _ _ (and-right _ _ inside);
+        inside = covered-frame s _ (and-left _ _ inside);
+        leaf-inside = covered-frame s _ (and-right _ _ inside);
         here = here;
         is-leaf = leaf-is _ leafs there (and-right _ _ types);
         type = eqb-true _ _ (and-left _ _ types);
-        unfixed = not-true _ unfixed;
+        unfixed = unfixed;
         validated = validated;
-        unused = not-true _ unused;
+        unused = unused;
       }))
 
   pub pmerge-cases : (caller hpa1 hpa2 : ℕ)
@@ -236,15 +227,12 @@ module _ (P : Outcome → Type 0) (s : State) (no : (n : ℕ) → P (outcome (re
       → P (pmerge s caller hpa1 hpa2)
   unfolding pmerge
   pmerge-cases caller hpa1 hpa2 ok =
-      checked P s no _ _ _ λ size.
-      checked P s no _ _ _ λ arguments.
-      checked P s no _ _ _ λ host.
-      checked P s no _ _ _ λ inside.
+      begun P s no _ _ _ _ λ size arguments host inside.
       decoded-by P s no _ _ λ one here1.
       decoded-by P s no _ _ λ two here2.
       checked P s no _ _ _ λ types.
       checked P s no _ _ _ λ fixed1.
-      checked P s no _ _ _ λ unfixed2.
+      checked-not P s no _ _ _ λ unfixed2.
       checked P s no _ _ _ λ validated2.
       vacant-by P s no _ _ λ no-place.
       checked P s no _ _ _ λ equal.
@@ -254,14 +242,14 @@ module _ (P : Outcome → Type 0) (s : State) (no : (n : ℕ) → P (outcome (re
         size = size;
         arguments = arguments;
         host = host-is caller host;
-        inside1 = ltb-true _ _ (and-left _ _ inside);
-        inside2 = ltb-true _ _ (and-right _ _ inside);
+        inside1 = covered-frame s _ (and-left _ _ inside);
+        inside2 = covered-frame s _ (and-right _ _ inside);
         here1 = here1;
         here2 = here2;
         type1 = eqb-true _ _ (and-left _ _ types);
         type2 = eqb-true _ _ (and-right _ _ types);
         fixed1 = fixed1;
-        unfixed2 = not-true _ unfixed2;
+        unfixed2 = unfixed2;
         validated2 = validated2;
         no-place = no-place;
         equal = eqb-true _ _ equal;
@@ -273,10 +261,7 @@ module _ (P : Outcome → Type 0) (s : State) (no : (n : ℕ) → P (outcome (re
       → P (punmerge s caller hpa1 hpa2 asid)
   unfolding punmerge
   punmerge-cases caller hpa1 hpa2 asid ok =
-      checked P s no _ _ _ λ size.
-      checked P s no _ _ _ λ arguments.
-      checked P s no _ _ _ λ host.
-      checked P s no _ _ _ λ inside.
+      begun P s no _ _ _ _ λ size arguments host inside.
       decoded-by P s no _ _ λ one here1.
       decoded-by P s no _ _ λ two here2.
       checked P s no _ _ _ λ types.
@@ -286,11 +271,10 @@ module _ (P : Outcome → Type 0) (s : State) (no : (n : ℕ) → P (outcome (re
       (ok one two gpa
       (record {
         size = size;
-        arguments = and-left _ _ arguments;
-        guest = and-right _ _ arguments;
+        arguments = arguments;
         host = host-is caller host;
-        inside1 = ltb-true _ _ (and-left _ _ inside);
-        inside2 = ltb-true _ _ (and-right _ _ inside);
+        inside1 = covered-frame s _ (and-left _ _ inside);
+        inside2 = covered-frame s _ (and-right _ _ inside);
         here1 = here1;
         here2 = here2;
         type1 = eqb-true _ _ (and-left _ _ types);
@@ -304,33 +288,30 @@ module _ (P : Outcome → Type 0) (s : State) (no : (n : ℕ) → P (outcome (re
       → P (punfix s caller hpa)
   unfolding punfix
   punfix-cases caller hpa ok =
-      checked P s no _ _ _ λ size.
-      checked P s no _ _ _ λ arguments.
-      checked P s no _ _ _ λ host.
-      checked P s no _ _ _ λ inside.
+      begun P s no _ _ _ _ λ size arguments host inside.
       decoded-by P s no _ _ λ old here.
       checked P s no _ _ _ λ type.
       checked P s no _ _ _ λ fixed.
       placed-by P s no _ _ λ gpa place.
-      checked P s no _ _ _ λ unshared.
+      checked-not P s no _ _ _ λ unshared.
       granted P s _ _
       (ok old gpa
       (record {
         size = size;
         arguments = arguments;
         host = host-is caller host;
-        inside = ltb-true _ _ inside;
+        inside = covered-frame s _ inside;
         here = here;
         type = eqb-true _ _ type;
         fixed = fixed;
         place = place;
-        unshared = not-true _ unshared;
+        unshared = unshared;
       }))
 
   -- the checks of an access, whatever it is to do
   module _ (writes : Bool) (caller gpa hpa gtype ntype index : ℕ) (rest : Verdict) where
     way-cases : (Way s writes caller gpa (frameOf hpa) gtype → P (settle s rest))
-        → P (settle s (pick (ltb (frameOf hpa) (N s)) (coveredAccess s writes caller gpa (frameOf hpa) gtype rest) (unless (eqb gtype SHARED) TYPE rest)))
+        → P (settle s (pick (covers s hpa) (coveredAccess s writes caller gpa hpa gtype rest) (unless (eqb gtype SHARED) TYPE rest)))
     unfolding coveredAccess fixedAccess unfixedAccess
     way-cases ok =
         chosen P s _ _ _
@@ -338,29 +319,26 @@ module _ (P : Outcome → Type 0) (s : State) (no : (n : ℕ) → P (outcome (re
         decoded-by P s no _ _ λ page here.
         checked P s no _ _ _ λ type.
         chosen P s _ _ _
-        (λ is-shared. ok (shared page (ltb-true _ _ inside) here (eqb-true _ _ type ∙ eqb-true _ _ is-shared) (eqb-true _ _ is-shared)))
+        (λ is-shared. ok (shared page (covered-frame s _ inside) here (eqb-true _ _ type ∙ eqb-true _ _ is-shared) (eqb-true _ _ is-shared)))
         (λ not-shared.
         chosen P s _ _ _
         (λ fixed.
-        checked P s no _ _ _ λ reads.
+        checked-not P s no _ _ _ λ reads.
         placed-by P s no _ _ λ held place.
         checked P s no _ _ _ λ address.
-        ok (merged page (ltb-true _ _ inside) here (eqb-true _ _ type) not-shared fixed (not-true _ reads) (rw (← (eqb-true held gpa address)) place)))
+        ok (merged page (covered-frame s _ inside) here (eqb-true _ _ type) not-shared fixed reads (rw (← (eqb-true held gpa address)) place)))
         (λ unfixed.
         checked P s no _ _ _ λ owner.
         checked P s no _ _ _ λ address.
         checked P s no _ _ _ λ validated.
-        ok (own page (ltb-true _ _ inside) here (eqb-true _ _ type) not-shared unfixed (eqb-true _ _ owner) (eqb-true _ _ address) validated))))
-        (λ outside. checked P s no _ _ _ λ is-shared. ok (above (ltb-false _ _ outside) (eqb-true _ _ is-shared)))
+        ok (own page (covered-frame s _ inside) here (eqb-true _ _ type) not-shared unfixed (eqb-true _ _ owner) (eqb-true _ _ address) validated))))
+        (λ outside. checked P s no _ _ _ λ is-shared. ok (above (uncovered-frame s _ outside) (eqb-true _ _ is-shared)))
 
     access-cases : (Accessed s writes caller gpa hpa gtype ntype index → P (settle s rest))
         → P (settle s (access s writes caller gpa hpa gtype ntype index rest))
     unfolding access
     access-cases ok =
-        checked P s no _ _ _ λ size.
-        checked P s no _ _ _ λ arguments.
-        checked P s no _ _ _ λ party.
-        checked P s no _ _ _ λ inside.
+        begun P s no _ _ _ _ λ size arguments party inside.
         checked P s no _ _ _ λ types.
         way-cases λ way.
         ok

@@ -9,21 +9,21 @@ use mathlib.Core.Logic.{_≢_}
 use Prim.Native.Nat.{ℕ, _≤_, _<_}
 use lib.ListN.{replicate}
 use lib.Dec.{leb}
-use borrow.Author.Tests.{leb-true}
+use borrow.Author.Tests.{leb-true, ltb-true, ltb-false}
 use Rattle.words.specs.Choice.{_and_}
 use Rattle.words.specs.Frame.{frameCount}
 use Rattle.words.proofs.ChoiceLaws.{and-left, and-right}
 use Rattle.words.proofs.FrameLaws.{count-putWord, count-zeroFrame, count-copyFrame, framed-putWord, framed-zeroFrame, framed-copyFrame}
 use Rattle.words.proofs.FrameLaws.{word-outside, word-past, word-put-same, word-put-other-frame, word-put-other-index, word-zero-same}
 use Rattle.words.proofs.FrameLaws.{word-zero-other, word-copy-same, word-copy-other, same-words}
-use Rattle.entries.specs.Entry.{unowned, wellFormed}
+use Rattle.entries.specs.Entry.{frameOf, zeroEntry, wellFormed}
 use Rattle.entries.specs.Table.{covered}
 use Rattle.entries.specs.declared.entry.Entry.{Entry}
 use Rattle.entries.specs.declared.entry.Decoded.{Decoded}
 use Rattle.entries.specs.declared.entry.Decoded.the-variants.{Good, Bad}
 use Rattle.entries.proofs.TableLaws.{covered-put, whole-put, entry-put-same, entry-put-other, entry-good, entry-empty}
 use Rattle.entries.proofs.Tells.{Tells, tells}
-use Rattle.rules.specs.State.{State, state, N, M, sized, entryAt, wordAt, differingAt, withEntry, withWord, withZeros, withCopy}
+use Rattle.rules.specs.State.{State, state, N, M, sized, covers, entryAt, wordAt, differingAt, withEntry, withWord, withZeros, withCopy}
 
 -- ---- sizes
 pub record Sizes (s : State) : Type 0 where
@@ -86,6 +86,16 @@ size-copy s f g =
     let m = count-copyFrame (s .memory) f g in
     record { same-N = refl; same-M = m; same-sized = rw (m, framed-copyFrame (s .memory) f g) }
 
+-- ---- the frame at an address
+module _ (s : State) (hpa : ℕ) where
+  pub covered-frame : covers s hpa ≡ true → frameOf hpa < N s
+  unfolding covers
+  covered-frame h = ltb-true _ _ h
+
+  pub uncovered-frame : covers s hpa ≡ false → N s ≤ frameOf hpa
+  unfolding covers
+  uncovered-frame h = ltb-false _ _ h
+
 -- ---- entries
 module _ (s : State) (f : ℕ) where
   -- a good entry: the table covers its frame, and it is well formed
@@ -123,7 +133,7 @@ module _ (s : State) (f : ℕ) where
 -- "Empty table: all words zero": every frame is SHARED
 pub entry-of-empty :
     (k : ℕ) (memory : List ℕ) (f : ℕ) → f < N (state (replicate k 0) memory)
-    → entryAt (state (replicate k 0) memory) f ≡ Good unowned
+    → entryAt (state (replicate k 0) memory) f ≡ Good zeroEntry
 unfolding entryAt N
 entry-of-empty k memory f h = entry-empty k f h
 

@@ -9,7 +9,7 @@ use Rattle.words.specs.Choice.{pick}
 use Rattle.entries.specs.declared.entry.Entry.{Entry}
 use Rattle.rules.specs.Access.{read}
 use Rattle.rules.specs.Answers.{Told, refused, done, none, closed, opened, already, word, count, Outcome, outcome}
-use Rattle.rules.specs.Assignment.{assigning, closing, validating, opening}
+use Rattle.rules.specs.Assignment.{assigning, updateAnswer, validating, validateAnswer}
 use Rattle.rules.specs.Calls.{Call, RMPUPDATE, PVALIDATE, PFIX, PMERGE, PUNMERGE, PUNFIX, READ, WRITE, CENSUS, step}
 use Rattle.rules.specs.Census.{census}
 use Rattle.rules.specs.Merging.{fixing, merging, unmerging, unfixing}
@@ -29,17 +29,17 @@ accepted s a u never n h = absurd (never n h)
 done-accepts : (n : ℕ) → done ≡ refused n → ⊥
 done-accepts n h = absurd (false≢true (cc))
 
-closing-accepts : (old : Entry) (n : ℕ) → closing old ≡ refused n → ⊥
-unfolding closing pick
-closing-accepts old n = go (old .validated)
+update-accepts : (old : Entry) (n : ℕ) → updateAnswer old ≡ refused n → ⊥
+unfolding updateAnswer pick
+update-accepts old n = go (old .validated)
   where
     go : (t : Bool) → pick t (closed (old .asid) (old .address)) none ≡ refused n → ⊥
     go true h = absurd (false≢true (cc))
     go false h = absurd (false≢true (cc))
 
-opening-accepts : (old : Entry) (n : ℕ) → opening old ≡ refused n → ⊥
-unfolding opening pick
-opening-accepts old n = go (old .validated)
+validate-accepts : (old : Entry) (n : ℕ) → validateAnswer old ≡ refused n → ⊥
+unfolding validateAnswer pick
+validate-accepts old n = go (old .validated)
   where
     go : (t : Bool) → pick t already opened ≡ refused n → ⊥
     go true h = absurd (false≢true (cc))
@@ -48,9 +48,9 @@ opening-accepts old n = go (old .validated)
 pub refused-keeps : (s : State) (c : Call) (n : ℕ) → step s c .told ≡ refused n → step s c .after ≡ s
 unfolding step
 refused-keeps s (RMPUPDATE caller hpa gpa asid kind) =
-    rmpupdate-cases (Kept s) s (λ n m h. refl) caller hpa gpa asid kind (λ old p. accepted s _ _ (closing-accepts old))
+    rmpupdate-cases (Kept s) s (λ n m h. refl) caller hpa gpa asid kind (λ old p. accepted s _ _ (update-accepts old))
 refused-keeps s (PVALIDATE caller gpa hpa kind) =
-    pvalidate-cases (Kept s) s (λ n m h. refl) caller gpa hpa kind (λ old p. accepted s _ _ (opening-accepts old))
+    pvalidate-cases (Kept s) s (λ n m h. refl) caller gpa hpa kind (λ old p. accepted s _ _ (validate-accepts old))
 refused-keeps s (PFIX caller hpa leaf) = pfix-cases (Kept s) s (λ n m h. refl) caller hpa leaf (λ old p. accepted s _ _ done-accepts)
 refused-keeps s (PMERGE caller hpa1 hpa2) = pmerge-cases (Kept s) s (λ n m h. refl) caller hpa1 hpa2 (λ one two p. accepted s _ _ done-accepts)
 refused-keeps s (PUNMERGE caller hpa1 hpa2 asid) =

@@ -1,23 +1,27 @@
 -- 01, "Refusal numbers" and "The calls": what a call answers, and a call as a chain of checks, each with the number of its refusal,
 -- and then what is done. "A refusal returns its number alone and changes no word of table or memory": that is said once, in `settle`.
-use mathlib.Core.Bool.{Bool}
+use mathlib.Core.Bool.{Bool, not}
 use Prim.Native.Nat.{ℕ}
 use Rattle.words.specs.Choice.{pick}
 use Rattle.entries.specs.declared.entry.Entry.{Entry}
 use Rattle.entries.specs.declared.entry.Decoded.{Decoded}
 use Rattle.entries.specs.declared.entry.Decoded.the-variants.{Good, Bad}
-use Rattle.rules.specs.Refusals.{BAD-ENTRY}
-use Rattle.rules.specs.State.{State}
+use Rattle.rules.specs.Refusals.{GEOMETRY, ARGUMENT, CALLER, OUTSIDE, BAD-ENTRY}
+use Rattle.rules.specs.State.{State, sized}
 
--- the answers, in the paper's words
+-- the answers, in the paper's words: `done` is the plain `ok` of PFIX, PMERGE, PUNMERGE, PUNFIX and WRITE
 pub data Told : Type 0 where
   refused : (number : ℕ) → Told
   done : Told
+  -- RMPUPDATE
   none : Told
   closed : (asid gpa : ℕ) → Told
+  -- PVALIDATE
   opened : Told
   already : Told
+  -- READ
   word : (value : ℕ) → Told
+  -- CENSUS
   count : (places : ℕ) → Told
 
 -- the answer of a call, with table and memory after it
@@ -37,9 +41,20 @@ unfoldable pub settle : State → Verdict → Outcome
 settle s (refuse number) = outcome (refused number) s
 settle s (grant answer after) = outcome answer after
 
--- a check: where it fails, its number; else what follows
+-- a check: unless the test passes, its number; else what follows. And the other way: when the test holds, its number.
 unfoldable pub unless : Bool → ℕ → Verdict → Verdict
-unless passed number rest = pick passed rest (refuse number)
+unless passes number rest = pick passes rest (refuse number)
+
+unfoldable pub when : Bool → ℕ → Verdict → Verdict
+when holds number rest = unless (not holds) number rest
+
+-- "Each begins with 1, 2, 3, 4": the sizes, the arguments, the party, the named frames
+unfoldable pub begins : State → Bool → Bool → Bool → Verdict → Verdict
+begins s arguments party inside rest =
+    unless (sized s) GEOMETRY
+    (unless arguments ARGUMENT
+    (unless party CALLER
+    (unless inside OUTSIDE rest)))
 
 -- "An entry is decoded before use; a call goes on only with a decoded entry."
 unfoldable pub entered : Decoded → (Entry → Verdict) → Verdict

@@ -3,15 +3,9 @@ use mathlib.Core.Bool.{Bool, not}
 use Prim.Native.Nat.{ℕ}
 use lib.Dec.{leb, eqb}
 use Rattle.words.specs.Choice.{_and_, _or_}
-use Rattle.entries.specs.Entry.{SHARED, MERGEABLE, LEAF, isAddress, isOwned, isUnowned}
+use Rattle.entries.specs.Entry.{SHARED, MERGEABLE, LEAF, isAddress, isParty, isGuest, isOwned, isUnowned}
 
--- "Guest numbers (ASID) are 1 to 511; 0 is the host."
-unfoldable pub isParty : ℕ → Bool
-isParty asid = leb asid 511
-
-unfoldable pub isGuest : ℕ → Bool
-isGuest asid = leb 1 asid and leb asid 511
-
+-- "0 is the host"
 unfoldable pub isHost : ℕ → Bool
 isHost caller = eqb caller 0
 
@@ -25,17 +19,23 @@ updateArguments caller hpa gpa asid kind =
 unfoldable pub validateArguments : ℕ → ℕ → ℕ → ℕ → Bool
 validateArguments caller gpa hpa kind = isParty caller and isAddress gpa and isAddress hpa and isOwned kind
 
--- PFIX, PMERGE and PUNMERGE name two frames, PUNFIX one
+-- PFIX and PMERGE
 unfoldable pub twoFrameArguments : ℕ → ℕ → ℕ → Bool
 twoFrameArguments caller hpa1 hpa2 = isParty caller and isAddress hpa1 and isAddress hpa2
 
+-- PUNMERGE: "2 if asid is 0"
+unfoldable pub unmergeArguments : ℕ → ℕ → ℕ → ℕ → Bool
+unmergeArguments caller hpa1 hpa2 asid = twoFrameArguments caller hpa1 hpa2 and isGuest asid
+
+-- PUNFIX
 unfoldable pub oneFrameArguments : ℕ → ℕ → Bool
 oneFrameArguments caller hpa = isParty caller and isAddress hpa
 
--- READ and WRITE: "Types 0 to 2, else 2"; and "3 if caller 0 gives a gtype or ntype other than SHARED"
+-- READ and WRITE: "Types 0 to 2, else 2". `index` is the paper's word.
 unfoldable pub accessArguments : ℕ → ℕ → ℕ → ℕ → ℕ → ℕ → Bool
 accessArguments caller gpa hpa gtype ntype index =
     isParty caller and isAddress gpa and isAddress hpa and leb gtype MERGEABLE and leb ntype MERGEABLE and leb index 511
 
+-- "3 if caller 0 gives a gtype or ntype other than SHARED"
 unfoldable pub mayAccess : ℕ → ℕ → ℕ → Bool
 mayAccess caller gtype ntype = not (isHost caller) or (eqb gtype SHARED and eqb ntype SHARED)

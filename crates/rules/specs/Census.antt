@@ -1,29 +1,28 @@
--- 01, "The calls": places and CENSUS. Both are counts of what the frames are to a guest, in rising order, so they can't drift apart.
+-- 01, "The calls": places and CENSUS. Both are counts of what the frames are to a guest, from one definition of a holding.
 use Prim.Native.Nat.{ℕ, zero, suc, _+_}
 use lib.Dec.{eqb}
 use Rattle.words.specs.Choice.{pick, _and_}
-use Rattle.entries.specs.declared.entry.Entry.{Entry}
+use Rattle.entries.specs.Entry.{isGuest}
 use Rattle.entries.specs.declared.entry.Decoded.{Decoded}
 use Rattle.entries.specs.declared.entry.Decoded.the-variants.{Good, Bad}
 use Rattle.entries.specs.declared.leaf.LeafWord.{LeafWord}
 use Rattle.entries.specs.declared.leaf.LeafWord.the-variants.{Absent, Present, Misshapen}
 use Rattle.rules.specs.Answers.{count, Outcome, Verdict, refuse, grant, settle, unless}
-use Rattle.rules.specs.Arguments.{isGuest}
 use Rattle.rules.specs.Leaves.{consulted}
 use Rattle.rules.specs.Refusals.{GEOMETRY, ARGUMENT, BAD-ENTRY, BROKEN-LEAF}
 use Rattle.rules.specs.State.{State, N, sized, entryAt}
 
--- what a frame is to a guest: the guest's place at an address, no place of it, or a refusal
+-- what a frame is to a guest: the guest's place at an address, no place of it, or what a census refuses with
 pub data Holding : Type 0 where
   holds : (gpa : ℕ) → Holding
   nothing : Holding
-  refuses : (number : ℕ) → Holding
+  fails : (number : ℕ) → Holding
 
 -- ".. or a fixed page in whose leaf its word is present with that address"
 unfoldable pub inLeaf : LeafWord → Holding
 inLeaf Absent = nothing
 inLeaf (Present gpa) = holds gpa
-inLeaf Misshapen = refuses BROKEN-LEAF
+inLeaf Misshapen = fails BROKEN-LEAF
 
 -- "A *place* of a guest at an address: an unfixed VALIDATED entry with both, or a fixed page .."
 unfoldable pub inEntry : State → ℕ → Decoded → Holding
@@ -31,7 +30,7 @@ inEntry s guest (Good page) =
     pick (page .fixed)
     (inLeaf (consulted s page guest))
     (pick ((page .validated) and eqb (page .asid) guest) (holds (page .address)) nothing)
-inEntry s guest Bad = refuses BAD-ENTRY
+inEntry s guest Bad = fails BAD-ENTRY
 
 unfoldable pub holding : State → ℕ → ℕ → Holding
 holding s guest frame = inEntry s guest (entryAt s frame)
@@ -40,7 +39,7 @@ holding s guest frame = inEntry s guest (entryAt s frame)
 unfoldable pub placeIn : Holding → ℕ → ℕ
 placeIn (holds here) gpa = pick (eqb here gpa) 1 0
 placeIn nothing gpa = 0
-placeIn (refuses number) gpa = 0
+placeIn (fails number) gpa = 0
 
 unfoldable pub placesBelow : State → ℕ → ℕ → ℕ → ℕ
 placesBelow s guest gpa zero = 0
@@ -57,14 +56,14 @@ pub data Tally : Type 0 where
 unfoldable pub counted : Tally → Holding → Tally
 counted (total n) (holds gpa) = total (n + 1)
 counted (total n) nothing = total n
-counted (total n) (refuses number) = stopped number
+counted (total n) (fails number) = stopped number
 counted (stopped number) holding = stopped number
 
 unfoldable pub tally : State → ℕ → ℕ → Tally
 tally s guest zero = total 0
 tally s guest (suc n) = counted (tally s guest n) (holding s guest n)
 
--- "Answer: the number of places of this guest."
+-- "Answer: the number of places of this guest." (CENSUS has only 1 and 2: "2 if asid is 0 or above 511")
 unfoldable pub reported : State → Tally → Verdict
 reported s (total n) = grant (count n) s
 reported s (stopped number) = refuse number

@@ -1,4 +1,4 @@
--- 01, "Refusal numbers": the table, whole. No other file has these numbers.
+-- 01, "Refusal numbers": the table, whole. The rules name a refusal, and only this file gives the names their numbers.
 use Prim.Native.Nat.{ℕ}
 
 -- lengths break the sizes

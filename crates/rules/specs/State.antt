@@ -1,11 +1,12 @@
--- 01, "Sizes and layout": table and memory, their sizes, and what the rules read and change in them. Only this file says where an
--- entry or a word lies; the rules go through these names, and the proofs through the laws about them.
+-- 01, "Sizes and layout": table and memory, their sizes, and what the rules read and change in them. The rules go through these names
+-- alone, and the proofs through the laws about them.
 use mathlib.Core.Bool.{Bool}
 use mathlib.Core.List.{List}
-use Prim.Native.Nat.{ℕ, _/_}
-use lib.Dec.{leb}
+use Prim.Native.Nat.{ℕ}
+use lib.Dec.{leb, ltb}
 use Rattle.words.specs.Choice.{_and_}
 use Rattle.words.specs.Frame.{frameCount, isFramed, wordIn, putWord, zeroFrame, copyFrame, differingIn}
+use Rattle.entries.specs.Entry.{frameOf}
 use Rattle.entries.specs.Table.{covered, isWhole, entryIn, putEntry}
 use Rattle.entries.specs.declared.entry.Entry.{Entry}
 use Rattle.entries.specs.declared.entry.Decoded.{Decoded}
@@ -29,9 +30,9 @@ unfoldable pub sized : State → Bool
 sized s =
     isWhole (s .table) and isFramed (s .memory) and leb 1 (N s) and leb (N s) 4096 and leb (N s) (M s) and leb (M s) 8192
 
--- "Frame number = hpa / 4,096"
-unfoldable pub frameOf : ℕ → ℕ
-frameOf hpa = hpa / 4096
+-- whether the table covers the frame at an address
+unfoldable pub covers : State → ℕ → Bool
+covers s hpa = ltb (frameOf hpa) (N s)
 
 -- what a frame holds: its entry, a word of it, and how many words of two frames differ
 unfoldable pub entryAt : State → ℕ → Decoded

@@ -1,5 +1,5 @@
--- 01, "Sizes and layout": memory is a run of 64-bit words, 512 to a frame. A frame that memory does not have whole, and a word index
--- above 511, read as zero, and a change there changes nothing.
+-- 01, "Sizes and layout": memory is a run of 64-bit words, 512 to a frame. In a frame that memory does not have whole, and at an index
+-- above 511, a word reads as zero and a change changes nothing.
 use mathlib.Core.Bool.{Bool}
 use mathlib.Core.List.{List}
 use Prim.Native.Nat.{ℕ, _+_, _*_, _/_, _%_}
@@ -34,7 +34,7 @@ zeroFrame memory frame = pasted memory (512 * frame) (replicate 512 0)
 unfoldable pub copyFrame : List ℕ → ℕ → ℕ → List ℕ
 copyFrame memory from to = copiedWithin memory (512 * from) (512 * to) 512
 
--- how many words of two frames differ
+-- how many words of two frames differ; none where memory has not both
 unfoldable pub differingIn : List ℕ → ℕ → ℕ → ℕ
 differingIn memory one two =
     pick (ltb one (frameCount memory))

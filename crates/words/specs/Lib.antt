@@ -1,4 +1,4 @@
--- Runs of words and frames of memory, as the promises of `words` and of the crates above it name them.
+-- Runs of words and frames of memory, as the promises of `words` and of the crates that stand on it name them.
 pub mod Choice
 pub mod Frame
 pub mod Run

@@ -5,7 +5,7 @@ use lib.Dec.{leb, eqb}
 use lib.ListN.{length, getD, take, drop}
 use Rattle.words.specs.Choice.{pick}
 
--- `count` words from the place `from` on
+-- `count` words from the place `from` on, or those that there are
 unfoldable pub part : List ℕ → ℕ → ℕ → List ℕ
 part words from count = take count (drop from words)
 
@@ -21,7 +21,7 @@ copied target source = pasted target 0 (take (length target) source)
 unfoldable pub copiedWithin : List ℕ → ℕ → ℕ → ℕ → List ℕ
 copiedWithin words from to count = pick (leb (from + count) (length words)) (pasted words to (part words from count)) words
 
--- how many of the first n words of two runs differ
+-- how many of the first n words of two runs differ; past its end a run counts as zero
 unfoldable pub differing : List ℕ → List ℕ → ℕ → ℕ
 differing a b zero = 0
 differing a b (suc n) = differing a b n + pick (eqb (getD a n 0) (getD b n 0)) 0 1

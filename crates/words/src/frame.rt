@@ -1,5 +1,5 @@
-// Frames of memory, each a run of 512 words. A frame that memory does not have whole, and a word index above 511, read as zero,
-// and a change there changes nothing.
+// Frames of memory, each a run of 512 words. In a frame that memory does not have whole, and at an index above 511, a word reads as
+// zero and a change changes nothing.
 ghost use mathlib.Core.Path.{_≡_};
 ghost use Rattle.words.specs.Frame.{frameCount, isFramed, wordIn, putWord, zeroFrame, copyFrame, differingIn};
 use crate::run;
@@ -63,7 +63,7 @@ pub fn copy(memory: &mut [u64], from: usize, to: usize)
     }
 }
 
-// How many words of two frames differ.
+// How many words of two frames differ; none where memory has not both.
 pub fn differing(memory: &[u64], one: usize, two: usize) -> u64
     ensures { λ r. ⌜ r ≡ differingIn (now (memory .entry)) one two ⌝ }
 {

@@ -1,6 +1,5 @@
 -- 01, "The script program": the worked script, as calls, and its worked output, as answers, both in the paper's order.
 use mathlib.Core.List.{List, [], _∷_}
-use Prim.Native.Nat.{ℕ}
 use lib.ListN.{replicate}
 use Rattle.rules.specs.Answers.{Told, refused, done, none, closed, opened, word, count}
 use Rattle.rules.specs.Calls.{Call, RMPUPDATE, PVALIDATE, PFIX, PMERGE, PUNMERGE, PUNFIX, READ, WRITE, CENSUS, step}
