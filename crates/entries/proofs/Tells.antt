@@ -59,7 +59,7 @@ unfolding isAddress _and_
 zero-address = refl
 
 -- no test both fails and passes, and no type is both owned and unowned
-false-not-true : {A : Type 0} {b : Bool} → b ≡ false → b ≡ true → A
+pub false-not-true : {A : Type 0} {b : Bool} → b ≡ false → b ≡ true → A
 false-not-true p q = absurd (false≢true (sym p ∙ q))
 
 not-unowned : (kind : ℕ) → isOwned kind ≡ true → isUnowned kind ≡ false

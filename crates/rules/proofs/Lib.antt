@@ -1,4 +1,5 @@
 -- The laws of the rules, which proofs cite instead of opening the definitions.
+pub mod ArgumentLaws
 pub mod Chain
 pub mod Computed
 pub mod Examples

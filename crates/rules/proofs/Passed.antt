@@ -11,10 +11,10 @@ use Rattle.words.proofs.ChoiceLaws.{and-left, and-right}
 use Rattle.entries.specs.Entry.{SHARED, MERGEABLE, LEAF, frameOf, isGuest}
 use Rattle.entries.specs.declared.entry.Entry.{Entry}
 use Rattle.entries.specs.declared.entry.Decoded.{Decoded}
-use Rattle.entries.specs.declared.entry.Decoded.the-variants.{Good, Bad}
+use Rattle.entries.specs.declared.entry.Decoded.the-variants.{Good}
 use Rattle.entries.specs.declared.leaf.LeafWord.the-variants.{Absent, Present}
 use Rattle.rules.specs.Access.{unfixedAccess, fixedAccess, coveredAccess, access, read, write}
-use Rattle.rules.specs.Answers.{Told, refused, done, word, count, Outcome, outcome, Verdict, settle, unless}
+use Rattle.rules.specs.Answers.{refused, done, word, count, Outcome, outcome, Verdict, settle, unless}
 use Rattle.rules.specs.Arguments.{isHost, updateArguments, validateArguments, twoFrameArguments, unmergeArguments}
 use Rattle.rules.specs.Arguments.{oneFrameArguments, accessArguments, mayAccess}
 use Rattle.rules.specs.Assignment.{assigning, updateAnswer, rmpupdate, validating, validateAnswer, pvalidate}

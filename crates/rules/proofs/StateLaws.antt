@@ -3,24 +3,20 @@
 -- proofs cite these laws. Each is a law of the table or of a frame, carried over.
 -- Assumes nothing.
 use mathlib.Core.Path.{_≡_, refl, _∙_}
-use mathlib.Core.Bool.{Bool, true, false}
+use mathlib.Core.Bool.{true, false}
 use mathlib.Core.List.{List}
 use mathlib.Core.Logic.{_≢_}
 use Prim.Native.Nat.{ℕ, _≤_, _<_}
 use lib.ListN.{replicate}
-use lib.Dec.{leb}
 use borrow.Author.Tests.{leb-true, ltb-true, ltb-false}
 use Rattle.words.specs.Choice.{_and_}
-use Rattle.words.specs.Frame.{frameCount}
 use Rattle.words.proofs.ChoiceLaws.{and-left, and-right}
 use Rattle.words.proofs.FrameLaws.{count-putWord, count-zeroFrame, count-copyFrame, framed-putWord, framed-zeroFrame, framed-copyFrame}
 use Rattle.words.proofs.FrameLaws.{word-outside, word-past, word-put-same, word-put-other-frame, word-put-other-index, word-zero-same}
 use Rattle.words.proofs.FrameLaws.{word-zero-other, word-copy-same, word-copy-other, same-words}
 use Rattle.entries.specs.Entry.{frameOf, zeroEntry, wellFormed}
-use Rattle.entries.specs.Table.{covered}
 use Rattle.entries.specs.declared.entry.Entry.{Entry}
-use Rattle.entries.specs.declared.entry.Decoded.{Decoded}
-use Rattle.entries.specs.declared.entry.Decoded.the-variants.{Good, Bad}
+use Rattle.entries.specs.declared.entry.Decoded.the-variants.{Good}
 use Rattle.entries.proofs.TableLaws.{covered-put, whole-put, entry-put-same, entry-put-other, entry-good, entry-empty}
 use Rattle.entries.proofs.Tells.{Tells, tells}
 use Rattle.rules.specs.State.{State, state, N, M, sized, covers, entryAt, wordAt, differingAt, withEntry, withWord, withZeros, withCopy}

@@ -4,16 +4,15 @@
 use mathlib.Core.Path.{_≡_, refl}
 use mathlib.Core.Bool.{Bool, true, false, false≢true}
 use Prim.Native.Nat.{ℕ}
-use lib.Dec.{eqb}
 use Rattle.words.specs.Choice.{pick}
 use Rattle.entries.specs.declared.entry.Entry.{Entry}
 use Rattle.rules.specs.Access.{read}
-use Rattle.rules.specs.Answers.{Told, refused, done, none, closed, opened, already, word, count, Outcome, outcome}
+use Rattle.rules.specs.Answers.{Told, refused, done, none, closed, opened, already, Outcome, outcome}
 use Rattle.rules.specs.Assignment.{assigning, updateAnswer, validating, validateAnswer}
 use Rattle.rules.specs.Calls.{Call, RMPUPDATE, PVALIDATE, PFIX, PMERGE, PUNMERGE, PUNFIX, READ, WRITE, CENSUS, step}
 use Rattle.rules.specs.Census.{census}
 use Rattle.rules.specs.Merging.{fixing, merging, unmerging, unfixing}
-use Rattle.rules.specs.State.{State, withEntry, withWord, withZeros, withCopy}
+use Rattle.rules.specs.State.{State, withZeros}
 use Rattle.rules.proofs.Passed.{rmpupdate-cases, pvalidate-cases, pfix-cases, pmerge-cases, punmerge-cases, punfix-cases, read-cases}
 use Rattle.rules.proofs.Passed.{write-cases, census-cases}
 use Rattle.rules.proofs.StateLaws.{SameSize, size-refl, size-trans, size-entry, size-word, size-zeros, size-copy}
