@@ -9,7 +9,7 @@ use mathlib.Core.Logic.{_≢_, ⊎-elim}
 use Prim.Native.Nat.{ℕ, _+_, _*_, _≤_, _<_}
 use native.Mathlib.Omega.{arith}
 use lib.ListN.{length, getD, set, replicate, length-set, length-replicate, getD-replicate}
-use lib.Seq.{getD-set-same, getD-set-other}
+use lib.Seq.{getD-set-same, getD-set-other, set-getD}
 use borrow.Author.Tests.{lt-ltb, le-ltb, ltb-true}
 use Rattle.words.specs.Choice.{pick, _and_, _or_}
 use Rattle.words.proofs.ChoiceLaws.{lt-or-le, pick-true, pick-false}
@@ -18,7 +18,7 @@ use Rattle.entries.specs.Entry.{fields, decoded, encoded}
 use Rattle.entries.specs.Table.{covered, isWhole, entryIn, putEntry}
 use Rattle.entries.specs.declared.entry.Entry.{Entry}
 use Rattle.entries.specs.declared.entry.Decoded.the-variants.{Good}
-use Rattle.entries.proofs.EntryLaws.{decode-encode, chosen, decode-good}
+use Rattle.entries.proofs.EntryLaws.{chosen, decode-encode, decode-good, encode-decode}
 
 -- the words of a table after an entry was put
 module _ (t : List ℕ) (f : ℕ) (e : Entry) where
@@ -79,6 +79,14 @@ module _ (t : List ℕ) (f : ℕ) (e : Entry) where
 pub entry-good : (t : List ℕ) (f : ℕ) (e : Entry) → entryIn t f ≡ Good e → (f < covered t) × (wellFormed (covered t) e ≡ true)
 unfolding entryIn
 entry-good t f e g = let q = chosen _ g in (ltb-true _ _ (q .0), decode-good _ _ _ e (q .1) .2)
+
+-- the entry that stands there, put again, changes no word
+pub put-same : (t : List ℕ) (f : ℕ) (e : Entry) → entryIn t f ≡ Good e → putEntry t f e ≡ t
+unfolding entryIn
+put-same t f e g =
+    let q = chosen _ g in
+    let words = encode-decode (covered t) (getD t (2 * f) 0) (getD t (2 * f + 1) 0) e (q .1) in
+    rw (put-in t f e (ltb-true _ _ (q .0)), words, set-getD, set-getD)
 
 -- an empty table: all words zero
 pub decode-zero : (n : ℕ) → decoded n 0 0 ≡ Good zeroEntry

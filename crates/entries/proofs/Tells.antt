@@ -10,7 +10,7 @@ use borrow.Author.Tests.{eqb-true, leb-true, ltb-true, le-leb, lt-ltb, not-true}
 use Rattle.words.specs.Choice.{_and_, _or_}
 use Rattle.words.proofs.ChoiceLaws.{and-left, and-right, or-cases}
 use Rattle.entries.specs.Entry.{SHARED, PRIVATE, MERGEABLE, LEAF, isAddress, frameOf, isGuest, isOwned, isUnowned, entry}
-use Rattle.entries.specs.Entry.{asidFits, flagsFit, addressFits, wellFormed, toMoved}
+use Rattle.entries.specs.Entry.{asidFits, flagsFit, addressFits, wellFormed, toValidated, toMoved}
 use Rattle.entries.specs.declared.entry.Entry.{Entry}
 
 -- joined tests that passed, from what each of them tells
@@ -153,6 +153,11 @@ module _ (n : ℕ) where
   unfolding wellFormed asidFits flagsFit addressFits entry isOwned isUnowned _and_ _or_
   fixed-fits asid leaf one small a below =
       rw (in-range asid one small, a, lt-ltb (frameOf leaf) n below)
+
+-- a validated page, validated again
+pub validated-is : (e : Entry) → e .validated ≡ true → toValidated e ≡ e
+unfolding toValidated entry
+validated-is e h = rw (← h)
 
 -- a fixed page, moved: MERGEABLE, VALIDATED and unfixed
 pub moved-is :

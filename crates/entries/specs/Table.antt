@@ -1,5 +1,5 @@
--- 01, "Sizes and layout": the table is a run of words, two for each of the first N frames. That number stands here alone: all
--- else goes through these four.
+-- 01, "Sizes and layout": the table is a run of words, two for each of the first N frames. Where they lie is said here alone:
+-- all else goes through these four.
 use mathlib.Core.Bool.{Bool}
 use mathlib.Core.List.{List}
 use Prim.Native.Nat.{ℕ, _+_, _*_, _/_, _%_}

@@ -167,7 +167,7 @@ impl Entry {
         }
     }
 
-    // The entry with FIXED clear, at the address of another guest.
+    // The entry with FIXED clear, of another guest and at its address.
     pub fn to_moved(self, asid: u64, gpa: u64) -> Entry
         ensures { λ r. ⌜ r ≡ toMoved self asid gpa ⌝ }
     {

@@ -1,5 +1,5 @@
-// The table as a lent run of words: how many frames it covers, and a frame's entry in it. Nothing outside this file knows how many
-// words an entry takes.
+// The table as a lent run of words: how many frames it covers, and a frame's entry in it. No other file knows where an entry's words
+// lie.
 ghost use mathlib.Core.Path.{_≡_};
 ghost use Rattle.entries.specs.Table.{covered, isWhole, entryIn, putEntry};
 use crate::entry;

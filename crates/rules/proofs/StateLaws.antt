@@ -1,6 +1,6 @@
 -- Table and memory as the rules read and change them: an entry after an entry was put or memory changed, a word after a word, a zeroing
--- or a copy, and that no change alters a size. This is the only file above `entries` and `words` that opens the state: all other
--- proofs cite these laws. Each is a law of the table or of a frame, carried over.
+-- or a copy, and that no change alters a size. Only this file opens the state, and `Computed` for examples: all other proofs cite these
+-- laws. Each is a law of the table or of a frame, carried over.
 -- Assumes nothing.
 use mathlib.Core.Path.{_≡_, refl, _∙_}
 use mathlib.Core.Bool.{true, false}
@@ -17,7 +17,7 @@ use Rattle.words.proofs.FrameLaws.{word-zero-other, word-copy-same, word-copy-o
 use Rattle.entries.specs.Entry.{frameOf, zeroEntry, wellFormed}
 use Rattle.entries.specs.declared.entry.Entry.{Entry}
 use Rattle.entries.specs.declared.entry.Decoded.the-variants.{Good}
-use Rattle.entries.proofs.TableLaws.{covered-put, whole-put, entry-put-same, entry-put-other, entry-good, entry-empty}
+use Rattle.entries.proofs.TableLaws.{covered-put, whole-put, entry-put-same, entry-put-other, put-same, entry-good, entry-empty}
 use Rattle.entries.proofs.Tells.{Tells, tells}
 use Rattle.rules.specs.State.{State, state, N, M, sized, covers, entryAt, wordAt, differingAt, withEntry, withWord, withZeros, withCopy}
 
@@ -109,6 +109,11 @@ module _ (s : State) (f : ℕ) where
   pub entry-after-entry : (e : Entry) → f < N s → wellFormed (N s) e ≡ true → entryAt (withEntry s f e) f ≡ Good e
   unfolding entryAt withEntry N
   entry-after-entry e h w = entry-put-same (s .table) f e h w
+
+  -- the entry that stands there, put again
+  pub same-entry : (e : Entry) → entryAt s f ≡ Good e → withEntry s f e ≡ s
+  unfolding entryAt withEntry
+  same-entry e h = rw (put-same (s .table) f e h)
 
   pub entry-elsewhere : (e : Entry) (g : ℕ) → g ≢ f → entryAt (withEntry s f e) g ≡ entryAt s g
   unfolding entryAt withEntry

@@ -1,21 +1,23 @@
--- Three laws of every call: a refusal changes nothing, READ and CENSUS change nothing, and no call changes a size. Each goes by the
--- cases of `Passed`: a refused call keeps the state, and an accepted one makes changes that are known to keep the sizes.
+-- Laws of the calls: a refusal changes nothing, READ, CENSUS and a PVALIDATE answered *already* change nothing, and no call changes a
+-- size. Each goes by the cases of `Passed`: a refused call keeps the state, and an accepted one makes changes that are known.
 -- Assumes nothing.
 use mathlib.Core.Path.{_≡_, refl}
 use mathlib.Core.Bool.{Bool, true, false, false≢true}
 use Prim.Native.Nat.{ℕ}
 use Rattle.words.specs.Choice.{pick}
 use Rattle.entries.specs.declared.entry.Entry.{Entry}
+use Rattle.entries.specs.declared.entry.Decoded.the-variants.{Good}
+use Rattle.entries.proofs.Tells.{validated-is}
 use Rattle.rules.specs.Access.{read}
 use Rattle.rules.specs.Answers.{Told, refused, done, none, closed, opened, already, Outcome, outcome}
-use Rattle.rules.specs.Assignment.{assigning, updateAnswer, validating, validateAnswer}
+use Rattle.rules.specs.Assignment.{assigning, updateAnswer, validating, validateAnswer, pvalidate}
 use Rattle.rules.specs.Calls.{Call, RMPUPDATE, PVALIDATE, PFIX, PMERGE, PUNMERGE, PUNFIX, READ, WRITE, CENSUS, step}
 use Rattle.rules.specs.Census.{census}
 use Rattle.rules.specs.Merging.{fixing, merging, unmerging, unfixing}
-use Rattle.rules.specs.State.{State, withZeros}
+use Rattle.rules.specs.State.{State, entryAt, withZeros}
 use Rattle.rules.proofs.Passed.{rmpupdate-cases, pvalidate-cases, pfix-cases, pmerge-cases, punmerge-cases, punfix-cases, read-cases}
 use Rattle.rules.proofs.Passed.{write-cases, census-cases}
-use Rattle.rules.proofs.StateLaws.{SameSize, size-refl, size-trans, size-entry, size-word, size-zeros, size-copy}
+use Rattle.rules.proofs.StateLaws.{same-entry, SameSize, size-refl, size-trans, size-entry, size-word, size-zeros, size-copy}
 
 -- ---- a refusal changes nothing
 abbrev Kept : State → Outcome → Type 0
@@ -68,6 +70,26 @@ read-keeps s caller gpa hpa gtype ntype index =
 
 pub census-keeps : (s : State) (asid : ℕ) → census s asid .after ≡ s
 census-keeps s asid = census-cases (λ o. o .after ≡ s) s (λ n. refl) asid (λ n p. refl)
+
+-- ---- a PVALIDATE of a page that is validated already changes nothing
+answered-already : (old : Entry) → validateAnswer old ≡ already → old .validated ≡ true
+unfolding validateAnswer pick
+answered-already old = go (old .validated)
+  where
+    go : (t : Bool) → pick t already opened ≡ already → t ≡ true
+    go true h = refl
+    go false h = absurd (false≢true (cc))
+
+validated-again :
+    (s : State) (frame : ℕ) (old : Entry) → entryAt s frame ≡ Good old → old .validated ≡ true → validating s frame old ≡ s
+unfolding validating
+validated-again s frame old here v = rw (validated-is old v) (same-entry s frame old here)
+
+pub already-keeps :
+    (s : State) (caller gpa hpa kind : ℕ) → pvalidate s caller gpa hpa kind .told ≡ already → pvalidate s caller gpa hpa kind .after ≡ s
+already-keeps s caller gpa hpa kind =
+    pvalidate-cases (λ o. o .told ≡ already → o .after ≡ s) s (λ n h. refl) caller gpa hpa kind
+    (λ old p h. validated-again s _ old (p .here) (answered-already old h))
 
 -- ---- no call changes a size
 size-cleared : (s : State) (frame : ℕ) (t : Bool) → SameSize s (pick t s (withZeros s frame))

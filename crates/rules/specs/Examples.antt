@@ -64,7 +64,7 @@ mergedPage =
 -- `apart` with frame 1, and not frame 0, fixed with that leaf
 unfoldable pub leafTaken : State
 leafTaken =
-    state (0x60007 ∷ 0x50000 ∷ 0xe0009 ∷ 0x2000 ∷ 0x30000 ∷ 0 ∷ []) (page 3 0x2a ++ (page 3 0x2b ++ page 9 0x60001))
+    state (0x60007 ∷ 0x50000 ∷ 0xe0009 ∷ 0x2000 ∷ 0x30000 ∷ 0 ∷ []) (page 3 0x2a ++ (page 3 0x2a ++ page 9 0x60001))
 
 unfoldable pub examples : List Example
 examples =

@@ -89,7 +89,7 @@ fn copy_up(words: &mut [u64], from: usize, to: usize, count: usize)
 }
 
 // How many words differ from the word at the same place of the other run, up to the end of the shorter one. Every word is read, and
-// equal words are counted: the machine has an instruction for equal and none for different.
+// equal words are counted: a vector instruction tests for equal and none for different.
 pub fn differing(a: &[u64], b: &[u64]) -> u64
     ensures { λ r. ⌜ r ≡ differing (now (a .entry)) (now (b .entry)) (min (length (now (a .entry))) (length (now (b .entry)))) ⌝ }
 {
