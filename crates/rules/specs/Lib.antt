@@ -6,6 +6,7 @@ pub mod Assignment
 pub mod Calls
 pub mod Census
 pub mod Examples
+pub mod History
 pub mod Leaves
 pub mod Merging
 pub mod Refusals

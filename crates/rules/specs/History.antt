@@ -1,0 +1,127 @@
+-- 01, "Demand 3 speaks of histories": the claim that no counter goes back, about the rules' own `step`, its answers and its memory.
+use mathlib.Core.Path.{_≡_}
+use mathlib.Core.Bool.{Bool, true, false}
+use mathlib.Core.List.{List, [], _∷_, _++_}
+use Prim.Native.Nat.{ℕ, _+_, _≤_}
+use lib.Dec.{eqb}
+use lib.ListN.{replicate}
+use Rattle.words.specs.Choice.{pick, _and_}
+use Rattle.entries.specs.Entry.{frameOf, isGuest, isOwned, bit}
+use Rattle.rules.specs.Answers.{Told, refused, done, none, closed, opened, already, word, count}
+use Rattle.rules.specs.Calls.{Call, RMPUPDATE, PVALIDATE, PFIX, PMERGE, PUNMERGE, PUNFIX, READ, WRITE, CENSUS, step}
+use Rattle.rules.specs.Census.{places}
+use Rattle.rules.specs.State.{State, state, wordAt}
+
+-- "The table starts empty and memory holds anything." "Empty table: all words zero."
+unfoldable pub emptyTable : ℕ → List ℕ → State
+emptyTable length memory = state (replicate length 0) memory
+
+-- a call as it was made: with the table and memory that it got, and its answer
+pub record Made : Type 0 where
+  pub call : Call
+  pub got : State
+  pub told : Told
+
+-- "Each call gets both as the call before left them": a list of calls as they were made, and table and memory after them
+unfoldable pub history : State → List Call → List Made
+history s [] = []
+history s (call ∷ rest) = record { call = call; got = s; told = step s call .told } ∷ history (step s call .after) rest
+
+unfoldable pub finally : State → List Call → State
+finally s [] = s
+finally s (call ∷ rest) = finally (step s call .after) rest
+
+-- what a call was to a guest at an address
+pub data Event : Type 0 where
+  opens : (guest gpa frame : ℕ) → Event
+  closes : (guest gpa : ℕ) → Event
+  reads : (guest gpa index value : ℕ) → Event
+  writes : (guest gpa index value : ℕ) → Event
+  neither : Event
+
+-- the event of an answer: one for *done*, *closed*, *opened* and a word each, and none for any other answer
+unfoldable pub byAnswer : Told → Event → (ℕ → ℕ → Event) → Event → (ℕ → Event) → Event
+byAnswer (refused number) ifDone ifClosed ifOpened ifWord = neither
+byAnswer done ifDone ifClosed ifOpened ifWord = ifDone
+byAnswer none ifDone ifClosed ifOpened ifWord = neither
+byAnswer (closed guest gpa) ifDone ifClosed ifOpened ifWord = ifClosed guest gpa
+byAnswer opened ifDone ifClosed ifOpened ifWord = ifOpened
+byAnswer already ifDone ifClosed ifOpened ifWord = neither
+byAnswer (word value) ifDone ifClosed ifOpened ifWord = ifWord value
+byAnswer (count number) ifDone ifClosed ifOpened ifWord = neither
+
+-- "*Opening*: a PVALIDATE answered *opened*, for its caller and gpa. *Closing*: an RMPUPDATE answered *closed*, for the guest and address
+-- that the answer names." "A read or write belongs to its caller and its gpa, whichever frame it names, and is private or mergeable if its
+-- gtype is 1 or 2."
+unfoldable pub eventOf : Call → Told → Event
+eventOf (RMPUPDATE caller hpa gpa asid kind) told = byAnswer told neither closes neither (λ value. neither)
+eventOf (PVALIDATE caller gpa hpa kind) told =
+    byAnswer told neither (λ guest address. neither) (opens caller gpa (frameOf hpa)) (λ value. neither)
+eventOf (PFIX caller hpa leaf) told = neither
+eventOf (PMERGE caller hpa1 hpa2) told = neither
+eventOf (PUNMERGE caller hpa1 hpa2 asid) told = neither
+eventOf (PUNFIX caller hpa) told = neither
+eventOf (READ caller gpa hpa gtype ntype index) told =
+    pick (isOwned gtype) (byAnswer told neither (λ guest address. neither) neither (reads caller gpa index)) neither
+eventOf (WRITE caller gpa hpa gtype ntype index value) told =
+    pick (isOwned gtype) (byAnswer told (writes caller gpa index value) (λ guest address. neither) neither (λ value. neither)) neither
+eventOf (CENSUS asid) told = neither
+
+unfoldable pub event : Made → Event
+event m = eventOf (m .call) (m .told)
+
+-- openings and closings of a guest at an address, "counted from the list and its answers alone"
+unfoldable pub isOpening : Event → ℕ → ℕ → Bool
+isOpening (opens who at frame) guest gpa = eqb who guest and eqb at gpa
+isOpening (closes who at) guest gpa = false
+isOpening (reads who at index value) guest gpa = false
+isOpening (writes who at index value) guest gpa = false
+isOpening neither guest gpa = false
+
+unfoldable pub isClosing : Event → ℕ → ℕ → Bool
+isClosing (opens who at frame) guest gpa = false
+isClosing (closes who at) guest gpa = eqb who guest and eqb at gpa
+isClosing (reads who at index value) guest gpa = false
+isClosing (writes who at index value) guest gpa = false
+isClosing neither guest gpa = false
+
+unfoldable pub openings : List Made → ℕ → ℕ → ℕ
+openings [] guest gpa = 0
+openings (m ∷ rest) guest gpa = bit (isOpening (event m) guest gpa) + openings rest guest gpa
+
+unfoldable pub closings : List Made → ℕ → ℕ → ℕ
+closings [] guest gpa = 0
+closings (m ∷ rest) guest gpa = bit (isClosing (event m) guest gpa) + closings rest guest gpa
+
+-- "The last such write: the value of the latest accepted private or mergeable WRITE .. with the read's caller, gpa and word index", and
+-- what was there before where there is none
+unfoldable pub written : Event → ℕ → ℕ → ℕ → ℕ → ℕ
+written (opens who at frame) guest gpa index before = before
+written (closes who at) guest gpa index before = before
+written (reads who at place value) guest gpa index before = before
+written (writes who at place value) guest gpa index before = pick (eqb who guest and eqb at gpa and eqb place index) value before
+written neither guest gpa index before = before
+
+unfoldable pub lastWrite : List Made → ℕ → ℕ → ℕ → ℕ → ℕ
+lastWrite [] guest gpa index before = before
+lastWrite (m ∷ rest) guest gpa index before = lastWrite rest guest gpa index (written (event m) guest gpa index before)
+
+-- the claim, of a list of calls whole
+pub record NoCounterGoesBack (s : State) (calls : List Call) : Type 0 where
+  -- "for each guest and address, places plus closings are exactly the openings"
+  pub counted :
+      (guest gpa : ℕ) → isGuest guest ≡ true
+      → places (finally s calls) guest gpa + closings (history s calls) guest gpa ≡ openings (history s calls) guest gpa
+  -- a private or mergeable read is accepted only at an address that was opened before it
+  pub opened-before :
+      (past rest : List Made) (read : Made) (guest gpa index value : ℕ)
+      → history s calls ≡ past ++ (read ∷ rest) → event read ≡ reads guest gpa index value
+      → 1 ≤ openings past guest gpa
+  -- "If the address was opened at most once before it, the read returns the guest's own last accepted such write to that word since the
+  -- opening, or, where there is none, the word found at the opening", "as memory held it at that call"
+  pub kept :
+      (past since rest : List Made) (opening read : Made) (guest gpa frame index value : ℕ)
+      → history s calls ≡ past ++ (opening ∷ (since ++ (read ∷ rest)))
+      → event opening ≡ opens guest gpa frame → event read ≡ reads guest gpa index value
+      → openings (past ++ (opening ∷ since)) guest gpa ≤ 1
+      → value ≡ lastWrite since guest gpa index (wordAt (opening .got) frame index)
