@@ -4,6 +4,7 @@
 use mathlib.Core.Path.{_≡_, refl, _∙_}
 use mathlib.Core.Bool.{Bool, true, false, not}
 use Prim.Native.Nat.{ℕ, _<_, _≤_}
+use native.Mathlib.Nat.{le-refl}
 use lib.Dec.{eqb}
 use borrow.Author.Tests.{eqb-true, eqb-false, ltb-true, not-true}
 use Rattle.words.specs.Choice.{pick}
@@ -24,6 +25,7 @@ use Rattle.rules.specs.Merging.{fixing, pfix, merging, pmerge, unmerging
 use Rattle.rules.specs.Refusals.{TYPE}
 use Rattle.rules.specs.State.{State, N, M, sized, covers, entryAt, wordAt, differingAt, withWord}
 use Rattle.rules.proofs.Chain.{granted, chosen, turned-down, checked, checked-not, begun, decoded-by, placed-by, vacant-by}
+use Rattle.rules.proofs.Reason.{Reason, fault, tally-stops}
 use Rattle.rules.proofs.StateLaws.{covered-frame, uncovered-frame}
 
 host-is : (caller : ℕ) → isHost caller ≡ true → caller ≡ 0
@@ -147,16 +149,17 @@ pub record Counted (s : State) (asid n : ℕ) : Type 0 where
   pub sum : tally s asid (N s) ≡ total n
 
 -- ---- a call is refused, or has passed its checks
-module _ (P : Outcome → Type 0) (s : State) (no : (n : ℕ) → P (outcome (refused n) s)) where
+module _ (P : Outcome → Type 0) (s : State) (no : (n : ℕ) → Reason s n → P (outcome (refused n) s)) where
   pub rmpupdate-cases : (caller hpa gpa asid kind : ℕ)
-      → ((old : Entry) → Updated s caller hpa gpa asid kind old → P (outcome (updateAnswer old) (assigning s (frameOf hpa) old gpa asid kind)))
+      → ((old : Entry) → Updated s caller hpa gpa asid kind old
+      → P (outcome (updateAnswer old) (assigning s (frameOf hpa) old gpa asid kind)))
       → P (rmpupdate s caller hpa gpa asid kind)
   unfolding rmpupdate
   rmpupdate-cases caller hpa gpa asid kind ok =
       begun P s no _ _ _ _ λ size arguments host inside.
-      decoded-by P s no _ _ λ old here.
-      checked-not P s no _ _ _ λ no-leaf.
-      checked-not P s no _ _ _ λ unfixed.
+      decoded-by P s no _ _ (covered-frame s _ inside) λ old here.
+      checked-not P s no _ _ _ refl λ no-leaf.
+      checked-not P s no _ _ _ refl λ unfixed.
       granted P s _ _
       (ok old
       (record {
@@ -175,11 +178,11 @@ module _ (P : Outcome → Type 0) (s : State) (no : (n : ℕ) → P (outcome (re
   unfolding pvalidate
   pvalidate-cases caller gpa hpa kind ok =
       begun P s no _ _ _ _ λ size arguments guest inside.
-      decoded-by P s no _ _ λ old here.
-      checked P s no _ _ _ λ type.
-      checked P s no _ _ _ λ owner.
-      checked-not P s no _ _ _ λ unfixed.
-      checked P s no _ _ _ λ address.
+      decoded-by P s no _ _ (covered-frame s _ inside) λ old here.
+      checked P s no _ _ _ refl λ type.
+      checked P s no _ _ _ refl λ owner.
+      checked-not P s no _ _ _ refl λ unfixed.
+      checked P s no _ _ _ refl λ address.
       granted P s _ _
       (ok old
       (record {
@@ -200,12 +203,12 @@ module _ (P : Outcome → Type 0) (s : State) (no : (n : ℕ) → P (outcome (re
   unfolding pfix
   pfix-cases caller hpa leaf ok =
       begun P s no _ _ _ _ λ size arguments host inside.
-      decoded-by P s no _ _ λ old here.
-      decoded-by P s no _ _ λ leafs there.
-      checked P s no _ _ _ λ types.
-      checked-not P s no _ _ _ λ unfixed.
-      checked P s no _ _ _ λ validated.
-      checked-not P s no _ _ _ λ unused.
+      decoded-by P s no _ _ (covered-frame s _ (and-left _ _ inside)) λ old here.
+      decoded-by P s no _ _ (covered-frame s _ (and-right _ _ inside)) λ leafs there.
+      checked P s no _ _ _ refl λ types.
+      checked-not P s no _ _ _ refl λ unfixed.
+      checked P s no _ _ _ refl λ validated.
+      checked-not P s no _ _ _ refl λ unused.
       granted P s _ _
       (ok old
       (record {
@@ -228,14 +231,14 @@ module _ (P : Outcome → Type 0) (s : State) (no : (n : ℕ) → P (outcome (re
   unfolding pmerge
   pmerge-cases caller hpa1 hpa2 ok =
       begun P s no _ _ _ _ λ size arguments host inside.
-      decoded-by P s no _ _ λ one here1.
-      decoded-by P s no _ _ λ two here2.
-      checked P s no _ _ _ λ types.
-      checked P s no _ _ _ λ fixed1.
-      checked-not P s no _ _ _ λ unfixed2.
-      checked P s no _ _ _ λ validated2.
-      vacant-by P s no _ _ λ no-place.
-      checked P s no _ _ _ λ equal.
+      decoded-by P s no _ _ (covered-frame s _ (and-left _ _ inside)) λ one here1.
+      decoded-by P s no _ _ (covered-frame s _ (and-right _ _ inside)) λ two here2.
+      checked P s no _ _ _ refl λ types.
+      checked P s no _ _ _ refl λ fixed1.
+      checked-not P s no _ _ _ refl λ unfixed2.
+      checked P s no _ _ _ refl λ validated2.
+      vacant-by P s no _ _ _ _ here1 fixed1 λ no-place.
+      checked P s no _ _ _ refl λ equal.
       granted P s _ _
       (ok one two
       (record {
@@ -262,11 +265,11 @@ module _ (P : Outcome → Type 0) (s : State) (no : (n : ℕ) → P (outcome (re
   unfolding punmerge
   punmerge-cases caller hpa1 hpa2 asid ok =
       begun P s no _ _ _ _ λ size arguments host inside.
-      decoded-by P s no _ _ λ one here1.
-      decoded-by P s no _ _ λ two here2.
-      checked P s no _ _ _ λ types.
-      checked P s no _ _ _ λ fixed1.
-      placed-by P s no _ _ λ gpa place.
+      decoded-by P s no _ _ (covered-frame s _ (and-left _ _ inside)) λ one here1.
+      decoded-by P s no _ _ (covered-frame s _ (and-right _ _ inside)) λ two here2.
+      checked P s no _ _ _ refl λ types.
+      checked P s no _ _ _ refl λ fixed1.
+      placed-by P s no _ _ _ _ here1 fixed1 λ gpa place.
       granted P s _ _
       (ok one two gpa
       (record {
@@ -289,11 +292,11 @@ module _ (P : Outcome → Type 0) (s : State) (no : (n : ℕ) → P (outcome (re
   unfolding punfix
   punfix-cases caller hpa ok =
       begun P s no _ _ _ _ λ size arguments host inside.
-      decoded-by P s no _ _ λ old here.
-      checked P s no _ _ _ λ type.
-      checked P s no _ _ _ λ fixed.
-      placed-by P s no _ _ λ gpa place.
-      checked-not P s no _ _ _ λ unshared.
+      decoded-by P s no _ _ (covered-frame s _ inside) λ old here.
+      checked P s no _ _ _ refl λ type.
+      checked P s no _ _ _ refl λ fixed.
+      placed-by P s no _ _ _ _ here fixed λ gpa place.
+      checked-not P s no _ _ _ refl λ unshared.
       granted P s _ _
       (ok old gpa
       (record {
@@ -315,31 +318,32 @@ module _ (P : Outcome → Type 0) (s : State) (no : (n : ℕ) → P (outcome (re
     unfolding coveredAccess fixedAccess unfixedAccess
     way-cases ok =
         chosen P s _ _ _
-        (λ inside.
-        decoded-by P s no _ _ λ page here.
-        checked P s no _ _ _ λ type.
+        (λ covered.
+        let inside = covered-frame s _ covered in
+        decoded-by P s no _ _ inside λ page here.
+        checked P s no _ _ _ refl λ type.
         chosen P s _ _ _
-        (λ is-shared. ok (shared page (covered-frame s _ inside) here (eqb-true _ _ type ∙ eqb-true _ _ is-shared) (eqb-true _ _ is-shared)))
+        (λ is-shared. ok (shared page inside here (eqb-true _ _ type ∙ eqb-true _ _ is-shared) (eqb-true _ _ is-shared)))
         (λ not-shared.
         chosen P s _ _ _
         (λ fixed.
-        checked-not P s no _ _ _ λ reads.
-        placed-by P s no _ _ λ held place.
-        checked P s no _ _ _ λ address.
-        ok (merged page (covered-frame s _ inside) here (eqb-true _ _ type) not-shared fixed reads (rw (← (eqb-true held gpa address)) place)))
+        checked-not P s no _ _ _ refl λ reads.
+        placed-by P s no _ _ _ _ here fixed λ held place.
+        checked P s no _ _ _ refl λ address.
+        ok (merged page inside here (eqb-true _ _ type) not-shared fixed reads (rw (← (eqb-true held gpa address)) place)))
         (λ unfixed.
-        checked P s no _ _ _ λ owner.
-        checked P s no _ _ _ λ address.
-        checked P s no _ _ _ λ validated.
-        ok (own page (covered-frame s _ inside) here (eqb-true _ _ type) not-shared unfixed (eqb-true _ _ owner) (eqb-true _ _ address) validated))))
-        (λ outside. checked P s no _ _ _ λ is-shared. ok (above (uncovered-frame s _ outside) (eqb-true _ _ is-shared)))
+        checked P s no _ _ _ refl λ owner.
+        checked P s no _ _ _ refl λ address.
+        checked P s no _ _ _ refl λ validated.
+        ok (own page inside here (eqb-true _ _ type) not-shared unfixed (eqb-true _ _ owner) (eqb-true _ _ address) validated))))
+        (λ outside. checked P s no _ _ _ refl λ is-shared. ok (above (uncovered-frame s _ outside) (eqb-true _ _ is-shared)))
 
     access-cases : (Accessed s writes caller gpa hpa gtype ntype index → P (settle s rest))
         → P (settle s (access s writes caller gpa hpa gtype ntype index rest))
     unfolding access
     access-cases ok =
         begun P s no _ _ _ _ λ size arguments party inside.
-        checked P s no _ _ _ λ types.
+        checked P s no _ _ _ refl λ types.
         way-cases λ way.
         ok
         (record {
@@ -365,15 +369,17 @@ module _ (P : Outcome → Type 0) (s : State) (no : (n : ℕ) → P (outcome (re
   write-cases caller gpa hpa gtype ntype index value ok =
       access-cases true caller gpa hpa gtype ntype index _ λ passed. granted P s _ _ (ok passed)
 
-  reported-cases : (t : Tally) → ((n : ℕ) → t ≡ total n → P (outcome (count n) s)) → P (settle s (reported s t))
+  reported-cases :
+      (t : Tally) → ((n : ℕ) → t ≡ stopped n → Reason s n) → ((n : ℕ) → t ≡ total n → P (outcome (count n) s))
+      → P (settle s (reported s t))
   unfolding reported
-  reported-cases (total n) ok = granted P s _ _ (ok n refl)
-  reported-cases (stopped n) ok = turned-down P s no n
+  reported-cases (total n) why ok = granted P s _ _ (ok n refl)
+  reported-cases (stopped n) why ok = turned-down P s no n (why n refl)
 
   pub census-cases : (asid : ℕ) → ((n : ℕ) → Counted s asid n → P (outcome (count n) s)) → P (census s asid)
   unfolding census
   census-cases asid ok =
-      checked P s no _ _ _ λ size.
-      checked P s no _ _ _ λ guest.
-      reported-cases _ λ n sum.
+      checked P s no _ _ _ refl λ size.
+      checked P s no _ _ _ refl λ guest.
+      reported-cases _ (λ n h. fault (tally-stops s n asid (N s) (le-refl _) h)) λ n sum.
       ok n (record { size = size; guest = guest; sum = sum })

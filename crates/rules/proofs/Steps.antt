@@ -1,5 +1,6 @@
--- Laws of the calls: a refusal changes nothing, READ, CENSUS and a PVALIDATE answered *already* change nothing, and no call changes a
--- size. Each goes by the cases of `Passed`: a refused call keeps the state, and an accepted one makes changes that are known.
+-- Laws of the calls: a refusal changes nothing and has a reason, READ, CENSUS and a PVALIDATE answered *already* change nothing, and no
+-- call changes a size. Each goes by the cases of `Passed`: a refused call keeps the state, and an accepted one makes changes that are
+-- known.
 -- Assumes nothing.
 use mathlib.Core.Path.{_≡_, refl}
 use mathlib.Core.Bool.{Bool, true, false, false≢true}
@@ -17,11 +18,15 @@ use Rattle.rules.specs.Merging.{fixing, merging, unmerging, unfixing}
 use Rattle.rules.specs.State.{State, entryAt, withZeros}
 use Rattle.rules.proofs.Passed.{rmpupdate-cases, pvalidate-cases, pfix-cases, pmerge-cases, punmerge-cases, punfix-cases, read-cases}
 use Rattle.rules.proofs.Passed.{write-cases, census-cases}
+use Rattle.rules.proofs.Reason.{Reason}
 use Rattle.rules.proofs.StateLaws.{same-entry, SameSize, size-refl, size-trans, size-entry, size-word, size-zeros, size-copy}
 
--- ---- a refusal changes nothing
+-- ---- a refusal changes nothing, and has a reason
 abbrev Kept : State → Outcome → Type 0
-Kept s o = (n : ℕ) → o .told ≡ refused n → o .after ≡ s
+Kept s o = (n : ℕ) → o .told ≡ refused n → (o .after ≡ s) × Reason s n
+
+refused-kept : (s : State) (n : ℕ) → Reason s n → Kept s (outcome (refused n) s)
+refused-kept s n why m h = let same : n ≡ m = cc in (refl, rw same at why)
 
 -- an answer that is no refusal has nothing to show
 accepted : (s : State) (a : Told) (u : State) → ((n : ℕ) → a ≡ refused n → ⊥) → Kept s (outcome a u)
@@ -46,30 +51,36 @@ validate-accepts old n = go (old .validated)
     go true h = absurd (false≢true (cc))
     go false h = absurd (false≢true (cc))
 
-pub refused-keeps : (s : State) (c : Call) (n : ℕ) → step s c .told ≡ refused n → step s c .after ≡ s
+refusal : (s : State) (c : Call) → Kept s (step s c)
 unfolding step
-refused-keeps s (RMPUPDATE caller hpa gpa asid kind) =
-    rmpupdate-cases (Kept s) s (λ n m h. refl) caller hpa gpa asid kind (λ old p. accepted s _ _ (update-accepts old))
-refused-keeps s (PVALIDATE caller gpa hpa kind) =
-    pvalidate-cases (Kept s) s (λ n m h. refl) caller gpa hpa kind (λ old p. accepted s _ _ (validate-accepts old))
-refused-keeps s (PFIX caller hpa leaf) = pfix-cases (Kept s) s (λ n m h. refl) caller hpa leaf (λ old p. accepted s _ _ done-accepts)
-refused-keeps s (PMERGE caller hpa1 hpa2) = pmerge-cases (Kept s) s (λ n m h. refl) caller hpa1 hpa2 (λ one two p. accepted s _ _ done-accepts)
-refused-keeps s (PUNMERGE caller hpa1 hpa2 asid) =
-    punmerge-cases (Kept s) s (λ n m h. refl) caller hpa1 hpa2 asid (λ one two gpa p. accepted s _ _ done-accepts)
-refused-keeps s (PUNFIX caller hpa) = punfix-cases (Kept s) s (λ n m h. refl) caller hpa (λ old gpa p. accepted s _ _ done-accepts)
-refused-keeps s (READ caller gpa hpa gtype ntype index) =
-    read-cases (Kept s) s (λ n m h. refl) caller gpa hpa gtype ntype index (λ p n h. refl)
-refused-keeps s (WRITE caller gpa hpa gtype ntype index value) =
-    write-cases (Kept s) s (λ n m h. refl) caller gpa hpa gtype ntype index value (λ p. accepted s _ _ done-accepts)
-refused-keeps s (CENSUS asid) = census-cases (Kept s) s (λ n m h. refl) asid (λ n p m h. refl)
+refusal s (RMPUPDATE caller hpa gpa asid kind) =
+    rmpupdate-cases (Kept s) s (refused-kept s) caller hpa gpa asid kind (λ old p. accepted s _ _ (update-accepts old))
+refusal s (PVALIDATE caller gpa hpa kind) =
+    pvalidate-cases (Kept s) s (refused-kept s) caller gpa hpa kind (λ old p. accepted s _ _ (validate-accepts old))
+refusal s (PFIX caller hpa leaf) = pfix-cases (Kept s) s (refused-kept s) caller hpa leaf (λ old p. accepted s _ _ done-accepts)
+refusal s (PMERGE caller hpa1 hpa2) = pmerge-cases (Kept s) s (refused-kept s) caller hpa1 hpa2 (λ one two p. accepted s _ _ done-accepts)
+refusal s (PUNMERGE caller hpa1 hpa2 asid) =
+    punmerge-cases (Kept s) s (refused-kept s) caller hpa1 hpa2 asid (λ one two gpa p. accepted s _ _ done-accepts)
+refusal s (PUNFIX caller hpa) = punfix-cases (Kept s) s (refused-kept s) caller hpa (λ old gpa p. accepted s _ _ done-accepts)
+refusal s (READ caller gpa hpa gtype ntype index) =
+    read-cases (Kept s) s (refused-kept s) caller gpa hpa gtype ntype index (λ p. accepted s _ _ λ n h. absurd (false≢true (cc)))
+refusal s (WRITE caller gpa hpa gtype ntype index value) =
+    write-cases (Kept s) s (refused-kept s) caller gpa hpa gtype ntype index value (λ p. accepted s _ _ done-accepts)
+refusal s (CENSUS asid) = census-cases (Kept s) s (refused-kept s) asid (λ m p. accepted s _ _ λ n h. absurd (false≢true (cc)))
+
+pub refused-keeps : (s : State) (c : Call) (n : ℕ) → step s c .told ≡ refused n → step s c .after ≡ s
+refused-keeps s c n h = refusal s c n h .0
+
+pub refused-why : (s : State) (c : Call) (n : ℕ) → step s c .told ≡ refused n → Reason s n
+refused-why s c n h = refusal s c n h .1
 
 -- ---- READ and CENSUS change nothing
 pub read-keeps : (s : State) (caller gpa hpa gtype ntype index : ℕ) → read s caller gpa hpa gtype ntype index .after ≡ s
 read-keeps s caller gpa hpa gtype ntype index =
-    read-cases (λ o. o .after ≡ s) s (λ n. refl) caller gpa hpa gtype ntype index (λ p. refl)
+    read-cases (λ o. o .after ≡ s) s (λ n why. refl) caller gpa hpa gtype ntype index (λ p. refl)
 
 pub census-keeps : (s : State) (asid : ℕ) → census s asid .after ≡ s
-census-keeps s asid = census-cases (λ o. o .after ≡ s) s (λ n. refl) asid (λ n p. refl)
+census-keeps s asid = census-cases (λ o. o .after ≡ s) s (λ n why. refl) asid (λ n p. refl)
 
 -- ---- a PVALIDATE of a page that is validated already changes nothing
 answered-already : (old : Entry) → validateAnswer old ≡ already → old .validated ≡ true
@@ -88,7 +99,7 @@ validated-again s frame old here v = rw (validated-is old v) (same-entry s frame
 pub already-keeps :
     (s : State) (caller gpa hpa kind : ℕ) → pvalidate s caller gpa hpa kind .told ≡ already → pvalidate s caller gpa hpa kind .after ≡ s
 already-keeps s caller gpa hpa kind =
-    pvalidate-cases (λ o. o .told ≡ already → o .after ≡ s) s (λ n h. refl) caller gpa hpa kind
+    pvalidate-cases (λ o. o .told ≡ already → o .after ≡ s) s (λ n why h. refl) caller gpa hpa kind
     (λ old p h. validated-again s _ old (p .here) (answered-already old h))
 
 -- ---- no call changes a size
@@ -124,18 +135,20 @@ size-unfixing s frame old gpa = size-trans (size-entry s _ _) (size-trans (size-
 pub step-size : (s : State) (c : Call) → SameSize s (step s c .after)
 unfolding step
 step-size s (RMPUPDATE caller hpa gpa asid kind) =
-    rmpupdate-cases (λ o. SameSize s (o .after)) s (λ n. size-refl s) caller hpa gpa asid kind (λ old p. size-assigning s _ old gpa asid kind)
+    rmpupdate-cases (λ o. SameSize s (o .after)) s (λ n why. size-refl s) caller hpa gpa asid kind
+    (λ old p. size-assigning s _ old gpa asid kind)
 step-size s (PVALIDATE caller gpa hpa kind) =
-    pvalidate-cases (λ o. SameSize s (o .after)) s (λ n. size-refl s) caller gpa hpa kind (λ old p. size-validating s _ old)
+    pvalidate-cases (λ o. SameSize s (o .after)) s (λ n why. size-refl s) caller gpa hpa kind (λ old p. size-validating s _ old)
 step-size s (PFIX caller hpa leaf) =
-    pfix-cases (λ o. SameSize s (o .after)) s (λ n. size-refl s) caller hpa leaf (λ old p. size-fixing s _ old leaf)
+    pfix-cases (λ o. SameSize s (o .after)) s (λ n why. size-refl s) caller hpa leaf (λ old p. size-fixing s _ old leaf)
 step-size s (PMERGE caller hpa1 hpa2) =
-    pmerge-cases (λ o. SameSize s (o .after)) s (λ n. size-refl s) caller hpa1 hpa2 (λ one two p. size-merging s one _ two)
+    pmerge-cases (λ o. SameSize s (o .after)) s (λ n why. size-refl s) caller hpa1 hpa2 (λ one two p. size-merging s one _ two)
 step-size s (PUNMERGE caller hpa1 hpa2 asid) =
-    punmerge-cases (λ o. SameSize s (o .after)) s (λ n. size-refl s) caller hpa1 hpa2 asid (λ one two gpa p. size-unmerging s _ one _ asid gpa)
+    punmerge-cases (λ o. SameSize s (o .after)) s (λ n why. size-refl s) caller hpa1 hpa2 asid
+    (λ one two gpa p. size-unmerging s _ one _ asid gpa)
 step-size s (PUNFIX caller hpa) =
-    punfix-cases (λ o. SameSize s (o .after)) s (λ n. size-refl s) caller hpa (λ old gpa p. size-unfixing s _ old gpa)
+    punfix-cases (λ o. SameSize s (o .after)) s (λ n why. size-refl s) caller hpa (λ old gpa p. size-unfixing s _ old gpa)
 step-size s (READ caller gpa hpa gtype ntype index) = rw (read-keeps s caller gpa hpa gtype ntype index) (size-refl s)
 step-size s (WRITE caller gpa hpa gtype ntype index value) =
-    write-cases (λ o. SameSize s (o .after)) s (λ n. size-refl s) caller gpa hpa gtype ntype index value (λ p. size-word s _ _ _)
+    write-cases (λ o. SameSize s (o .after)) s (λ n why. size-refl s) caller gpa hpa gtype ntype index value (λ p. size-word s _ _ _)
 step-size s (CENSUS asid) = rw (census-keeps s asid) (size-refl s)

@@ -1,10 +1,10 @@
--- Choices and joined tests: what a test that passed tells, one comparison taken apart, and a choice behind two bounds.
+-- Choices and joined tests: what a test that passed tells, comparisons taken apart, and a choice behind two bounds.
 -- Assumes nothing.
 use mathlib.Core.Path.{_≡_, refl, _∙_}
 use mathlib.Core.Bool.{Bool, true, false, false≢true}
-use mathlib.Core.Logic.{_⊎_, inl, inr, ⊎-elim}
+use mathlib.Core.Logic.{_≢_, _⊎_, inl, inr, ⊎-elim}
 use Prim.Native.Nat.{ℕ, _≤_, _<_}
-use native.Mathlib.Decide.{decLt}
+use native.Mathlib.Decide.{decLt, ℕ-discrete}
 use native.Mathlib.Omega.{arith}
 use lib.Dec.{ltb}
 use borrow.Author.Tests.{lt-ltb, le-ltb}
@@ -12,6 +12,9 @@ use Rattle.words.specs.Choice.{pick, _and_, _or_}
 
 pub lt-or-le : (a b : ℕ) → (a < b) ⊎ (b ≤ a)
 lt-or-le a b = elim (decLt a b) [ yes h ↦ inl h | no h ↦ inr (omega arith) ]
+
+pub same-or-not : (a b : ℕ) → (a ≡ b) ⊎ (a ≢ b)
+same-or-not a b = elim (ℕ-discrete a b) [ yes h ↦ inl h | no h ↦ inr h ]
 
 pub pick-true : {A : Type 0} {t : Bool} (a b : A) → t ≡ true → pick t a b ≡ a
 unfolding pick

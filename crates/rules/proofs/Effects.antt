@@ -1,0 +1,276 @@
+-- What each accepted call does to table and memory, entry by entry and word by word. Each follows from what the call has passed and the
+-- laws of the state; nothing here knows of guests' places. Proofs about calls cite these and open no change.
+-- Assumes nothing.
+use mathlib.Core.Path.{_≡_, refl, sym, _∙_}
+use mathlib.Core.Bool.{Bool, true, false, false≢true}
+use mathlib.Core.Logic.{_≢_, _⊎_, inl, inr, ⊎-elim}
+use Prim.Native.Nat.{ℕ, _<_, _≤_}
+use native.Mathlib.Omega.{arith}
+use lib.Dec.{eqb}
+use Rattle.words.specs.Choice.{pick, _or_}
+use Rattle.words.proofs.ChoiceLaws.{pick-true, pick-false}
+use Rattle.entries.specs.Entry.{SHARED, MERGEABLE, LEAF, frameOf, isOwned, isUnowned, entry, zeroEntry, wellFormed, toValidated, toFixed, toUnfixed}
+use Rattle.entries.specs.Leaf.{presentAt}
+use Rattle.entries.specs.declared.entry.Entry.{Entry}
+use Rattle.entries.specs.declared.entry.Decoded.the-variants.{Good}
+use Rattle.entries.specs.declared.leaf.LeafWord.{LeafWord}
+use Rattle.entries.specs.declared.leaf.LeafWord.the-variants.{Absent, Present, Misshapen}
+use Rattle.entries.proofs.LeafLaws.{present-address}
+use Rattle.entries.proofs.Tells.{page-fits, fixed-fits, unowned-fits, guest-range}
+use Rattle.rules.specs.Assignment.{assigning, validating}
+use Rattle.rules.specs.Leaves.{leafFrame, isLeaf, consulted}
+use Rattle.rules.specs.Merging.{fixing, merging, unmerging, unfixing}
+use Rattle.rules.specs.State.{State, N, M, sized, entryAt, wordAt, withEntry, withWord, withZeros, withCopy}
+use Rattle.rules.proofs.ArgumentLaws.{update-tells, update-fits, validate-tells, two-addresses, unmerge-tells}
+use Rattle.rules.proofs.Leaves.{consulted-is, is-a-leaf, leaf-apart, leaf-inside}
+use Rattle.rules.proofs.Passed.{Updated, Validated, Fixed, Merged, Unmerged, Unfixed}
+use Rattle.rules.proofs.StateLaws.{SameSize, size-refl, size-trans, size-entry, size-word, size-zeros, size-copy, sizes, entry-tells}
+use Rattle.rules.proofs.StateLaws.{entry-after-entry, entry-elsewhere, entry-after-word, entry-after-zeros, entry-after-copy}
+use Rattle.rules.proofs.StateLaws.{word-after-entry, word-after-word, word-elsewhere, word-beside, word-after-zeros, word-beside-zeros}
+use Rattle.rules.proofs.StateLaws.{word-after-copy, word-beside-copy}
+
+-- one entry is another, and every other is as it was
+pub record Put (s u : State) (f : ℕ) (e : Entry) : Type 0 where
+  pub same-size : SameSize s u
+  pub here : entryAt u f ≡ Good e
+  pub elsewhere : (g : ℕ) → g ≢ f → entryAt u g ≡ entryAt s g
+
+-- a change of memory alone
+pub record MemoryOnly (s u : State) : Type 0 where
+  pub same-size : SameSize s u
+  pub entries : (g : ℕ) → entryAt u g ≡ entryAt s g
+
+memory-word : (s : State) (f i v : ℕ) → MemoryOnly s (withWord s f i v)
+memory-word s f i v = record { same-size = size-word s f i v; entries = λ g. entry-after-word s f i v g }
+
+memory-zeros : (s : State) (f : ℕ) → MemoryOnly s (withZeros s f)
+memory-zeros s f = record { same-size = size-zeros s f; entries = λ g. entry-after-zeros s f g }
+
+memory-copy : (s : State) (f to : ℕ) → MemoryOnly s (withCopy s f to)
+memory-copy s f to = record { same-size = size-copy s f to; entries = λ g. entry-after-copy s f to g }
+
+memory-both : {s u v : State} → MemoryOnly s u → MemoryOnly u v → MemoryOnly s v
+memory-both p q =
+    record { same-size = size-trans (p .same-size) (q .same-size); entries = λ g. q .entries g ∙ p .entries g }
+
+-- an entry put after memory changed, and memory changed after an entry was put
+put-after : {s v : State} → MemoryOnly s v → (f : ℕ) (e : Entry) → f < N s → wellFormed (N s) e ≡ true → Put s (withEntry v f e) f e
+put-after {s = s} {v = v} m f e inside fits =
+    let n : N v ≡ N s = m .same-size .same-N in
+    record {
+      same-size = size-trans (m .same-size) (size-entry v f e);
+      here = entry-after-entry v f e (rw n inside) (rw n fits);
+      elsewhere = λ g apart. entry-elsewhere v f e g apart ∙ m .entries g;
+    }
+
+put-before : {s v u : State} (f : ℕ) (e : Entry) → Put s v f e → MemoryOnly v u → Put s u f e
+put-before f e p m =
+    record {
+      same-size = size-trans (p .same-size) (m .same-size);
+      here = m .entries f ∙ p .here;
+      elsewhere = λ g apart. m .entries g ∙ p .elsewhere g apart;
+    }
+
+-- ---- RMPUPDATE
+cleared : (s : State) (f : ℕ) (t : Bool) → MemoryOnly s (pick t s (withZeros s f))
+unfolding pick
+cleared s f true = record { same-size = size-refl s; entries = λ g. refl }
+cleared s f false = memory-zeros s f
+
+kept-beside : (s : State) (f g i : ℕ) (t : Bool) → g ≢ f → wordAt (pick t s (withZeros s f)) g i ≡ wordAt s g i
+unfolding pick
+kept-beside s f g i true apart = refl
+kept-beside s f g i false apart = word-beside-zeros s f g i apart
+
+pub record Assigned (s u : State) (f : ℕ) (e : Entry) : Type 0 where
+  pub put : Put s u f e
+  pub words : (g i : ℕ) → g ≢ f → wordAt u g i ≡ wordAt s g i
+
+pub assigned :
+    (s : State) (caller hpa gpa asid kind : ℕ) (old : Entry) → Updated s caller hpa gpa asid kind old
+    → Assigned s (assigning s (frameOf hpa) old gpa asid kind) (frameOf hpa) (entry asid kind false false gpa)
+unfolding assigning
+assigned s caller hpa gpa asid kind old p =
+    record {
+      put = put-after (cleared s _ _) _ _ (p .inside) (update-fits caller hpa gpa asid kind (p .arguments) (N s));
+      words = λ g i apart. word-after-entry _ _ _ g i ∙ kept-beside s _ g i _ apart;
+    }
+
+-- ---- PVALIDATE
+pub record Opened (s u : State) (f : ℕ) (e : Entry) : Type 0 where
+  pub put : Put s u f e
+  pub words : (g i : ℕ) → wordAt u g i ≡ wordAt s g i
+
+nothing-yet : (s : State) → MemoryOnly s s
+nothing-yet s = record { same-size = size-refl s; entries = λ g. refl }
+
+pub validated-page :
+    (s : State) (caller gpa hpa kind : ℕ) (old : Entry) → Validated s caller gpa hpa kind old
+    → Opened s (validating s (frameOf hpa) old) (frameOf hpa) (entry caller kind true false gpa)
+unfolding validating toValidated
+validated-page s caller gpa hpa kind old p =
+    let t = validate-tells caller gpa hpa kind (p .arguments) in
+    let small = t .caller-small in
+    rw (p .owner, p .type, p .unfixed, p .address)
+    (record {
+      put = put-after (nothing-yet s) _ _ (p .inside)
+          (page-fits (N s) caller kind true gpa (t .owned) (omega (arith, p .guest)) small (t .guest-address));
+      words = λ g i. word-after-entry s _ _ g i;
+    })
+
+-- ---- PFIX
+mergeable-owned : (kind : ℕ) → kind ≡ MERGEABLE → isOwned kind ≡ true
+unfolding isOwned _or_
+mergeable-owned kind h = rw h
+
+pub record FixedUp (s u : State) (f leaf : ℕ) (old e : Entry) : Type 0 where
+  pub put : Put s u f e
+  pub words : (g i : ℕ) → g ≢ leaf → wordAt u g i ≡ wordAt s g i
+  pub owner-word : wordAt u leaf (old .asid) ≡ presentAt (old .address)
+  pub other-words : (i : ℕ) → i ≢ old .asid → wordAt u leaf i ≡ 0
+
+pub fixed-page :
+    (s : State) (caller hpa leaf : ℕ) (old : Entry) → Fixed s caller hpa leaf old
+    → FixedUp s (fixing s (frameOf hpa) old leaf) (frameOf hpa) (frameOf leaf) old (entry (old .asid) MERGEABLE true true leaf)
+unfolding fixing toFixed
+fixed-page s caller hpa leaf old p =
+    let z = sizes s (p .size) in
+    let t = entry-tells s _ old (p .here) in
+    let small = t .asid-small in
+    let inside = p .leaf-inside in
+    let least = z .memory-least in
+    let zeroed = withZeros s (frameOf leaf) in
+    let m : M zeroed ≡ M s = size-zeros s (frameOf leaf) .same-M in
+    let below : frameOf leaf < M zeroed = rw m (omega arith) in
+    rw (p .type, p .validated)
+    (record {
+      put = put-after (memory-both (memory-zeros s _) (memory-word _ _ _ _)) _ _ (p .inside)
+          (fixed-fits (N s) (old .asid) leaf (t .owned-asid (mergeable-owned _ (p .type))) small (two-addresses caller hpa leaf (p .arguments) .1) inside);
+      words = λ g i apart. word-after-entry _ _ _ g i ∙ word-elsewhere _ _ _ _ g i apart ∙ word-beside-zeros s _ g i apart;
+      owner-word = word-after-entry _ _ _ _ _ ∙ word-after-word zeroed _ _ _ below small;
+      other-words = λ i apart. word-after-entry _ _ _ _ _ ∙ word-beside zeroed _ _ _ _ i apart ∙ word-after-zeros s _ i;
+    })
+
+-- ---- PMERGE, PUNMERGE and PUNFIX: the word that was consulted is in a LEAF, which is none of the named frames
+pub from-absent : {w : LeafWord} → w ≡ Absent → w ≡ Misshapen → ⊥
+from-absent h k = absurd (false≢true (cc))
+
+pub from-present : {w : LeafWord} {gpa : ℕ} → w ≡ Present gpa → w ≡ Misshapen → ⊥
+from-present h k = absurd (false≢true (cc))
+
+pub not-a-leaf : {kind : ℕ} (other : ℕ) → kind ≡ other → other < LEAF → kind ≢ LEAF
+not-a-leaf other h l same = let z : ⊥ = omega arith in absurd z
+
+zero-fits : (n : ℕ) → wellFormed n zeroEntry ≡ true
+unfolding zeroEntry isUnowned _or_
+zero-fits n = unowned-fits n SHARED refl
+
+pub record MergedIn (s u : State) (leaf f2 : ℕ) (two : Entry) : Type 0 where
+  pub put : Put s u f2 zeroEntry
+  pub is-leaf : isLeaf (entryAt s leaf) ≡ true
+  pub apart : leaf ≢ f2
+  pub words : (g i : ℕ) → g ≢ f2 → g ≢ leaf → wordAt u g i ≡ wordAt s g i
+  pub leaf-word : wordAt u leaf (two .asid) ≡ presentAt (two .address)
+  pub leaf-words : (i : ℕ) → i ≢ two .asid → wordAt u leaf i ≡ wordAt s leaf i
+
+pub merged-page :
+    (s : State) (caller hpa1 hpa2 : ℕ) (one two : Entry) → Merged s caller hpa1 hpa2 one two
+    → MergedIn s (merging s one (frameOf hpa2) two) (leafFrame one) (frameOf hpa2) two
+unfolding merging
+merged-page s caller hpa1 hpa2 one two p =
+    let inside = leaf-inside s _ one (p .here1) (p .fixed1) in
+    let least = sizes s (p .size) .memory-least in
+    let small = entry-tells s _ two (p .here2) .asid-small in
+    let is-leaf = is-a-leaf s one (two .asid) (from-absent (p .no-place)) in
+    let apart = leaf-apart s _ _ two is-leaf (p .here2) (not-a-leaf MERGEABLE (p .type2) (omega arith)) in
+    record {
+      put = put-after (memory-both (memory-word s _ _ _) (memory-zeros _ _)) _ _ (p .inside2) (zero-fits (N s));
+      is-leaf = is-leaf;
+      apart = apart;
+      words = λ g i other off. word-after-entry _ _ _ g i ∙ word-beside-zeros _ _ g i other ∙ word-elsewhere s _ _ _ g i off;
+      leaf-word = word-after-entry _ _ _ _ _ ∙ word-beside-zeros _ _ _ _ apart ∙ word-after-word s _ _ _ (omega arith) small;
+      leaf-words = λ i other. word-after-entry _ _ _ _ i ∙ word-beside-zeros _ _ _ i apart ∙ word-beside s _ _ _ _ i other;
+    }
+
+pub record UnmergedTo (s u : State) (f1 f2 leaf asid : ℕ) (e : Entry) : Type 0 where
+  pub put : Put s u f2 e
+  pub is-leaf : isLeaf (entryAt s leaf) ≡ true
+  pub apart : leaf ≢ f2
+  pub words : (g i : ℕ) → g ≢ f2 → g ≢ leaf → wordAt u g i ≡ wordAt s g i
+  pub copied : (i : ℕ) → wordAt u f2 i ≡ wordAt s f1 i
+  pub leaf-word : wordAt u leaf asid ≡ 0
+  pub leaf-words : (i : ℕ) → i ≢ asid → wordAt u leaf i ≡ wordAt s leaf i
+
+pub unmerged-page :
+    (s : State) (caller hpa1 hpa2 asid : ℕ) (one two : Entry) (gpa : ℕ) → Unmerged s caller hpa1 hpa2 asid one two gpa
+    → UnmergedTo s (unmerging s (frameOf hpa1) one (frameOf hpa2) asid gpa) (frameOf hpa1) (frameOf hpa2) (leafFrame one) asid
+      (entry asid MERGEABLE true false gpa)
+unfolding unmerging
+unmerged-page s caller hpa1 hpa2 asid one two gpa p =
+    let inside = leaf-inside s _ one (p .here1) (p .fixed1) in
+    let least = sizes s (p .size) .memory-least in
+    let inside1 = p .inside1 in
+    let inside2 = p .inside2 in
+    let range = guest-range asid (unmerge-tells caller hpa1 hpa2 asid (p .arguments) .2) in
+    let is-leaf = is-a-leaf s one asid (from-present (p .place)) in
+    let apart = leaf-apart s _ _ two is-leaf (p .here2) (not-a-leaf SHARED (p .type2) (omega arith)) in
+    let address = present-address _ gpa (sym (consulted-is s one asid is-leaf) ∙ p .place) in
+    let fits = page-fits (N s) asid MERGEABLE true gpa (mergeable-owned _ refl) (range .0) (omega arith) address in
+    let e = entry asid MERGEABLE true false gpa in
+    let copy = withCopy s (frameOf hpa1) (frameOf hpa2) in
+    let moved = withEntry copy (frameOf hpa2) e in
+    let m : M moved ≡ M s = size-entry copy _ e .same-M ∙ size-copy s _ _ .same-M in
+    record {
+      put = put-before _ e (put-after (memory-copy s _ _) _ e (p .inside2) fits) (memory-word moved _ _ _);
+      is-leaf = is-leaf;
+      apart = apart;
+      words = λ g i other off. word-elsewhere moved _ _ _ g i off ∙ word-after-entry copy _ e g i ∙ word-beside-copy s _ _ g i other;
+      copied = λ i. word-elsewhere moved _ _ _ _ i (λ same. apart (sym same)) ∙ word-after-entry copy _ e _ i ∙ word-after-copy s _ _ i (omega arith) (omega arith);
+      leaf-word = word-after-word moved _ _ _ (rw m (omega arith)) (omega arith);
+      leaf-words = λ i other. word-beside moved _ _ _ _ i other ∙ word-after-entry copy _ e _ i ∙ word-beside-copy s _ _ _ i apart;
+    }
+
+pub record UnfixedTo (s u : State) (f leaf : ℕ) (e : Entry) : Type 0 where
+  pub same-size : SameSize s u
+  pub is-leaf : isLeaf (entryAt s leaf) ≡ true
+  pub apart : leaf ≢ f
+  pub here : entryAt u f ≡ Good e
+  pub leaf-here : entryAt u leaf ≡ Good zeroEntry
+  pub elsewhere : (g : ℕ) → g ≢ f → g ≢ leaf → entryAt u g ≡ entryAt s g
+  pub words : (g i : ℕ) → g ≢ leaf → wordAt u g i ≡ wordAt s g i
+
+unfixed-is :
+    (e : Entry) (gpa : ℕ) → e .kind ≡ MERGEABLE → e .validated ≡ true → toUnfixed e gpa ≡ entry (e .asid) MERGEABLE true false gpa
+unfolding toUnfixed
+unfixed-is e gpa k v = rw (k, v)
+
+pub unfixed-page :
+    (s : State) (caller hpa : ℕ) (old : Entry) (gpa : ℕ) → Unfixed s caller hpa old gpa
+    → UnfixedTo s (unfixing s (frameOf hpa) old gpa) (frameOf hpa) (leafFrame old) (entry (old .asid) MERGEABLE true false gpa)
+unfolding unfixing
+unfixed-page s caller hpa old gpa p =
+    let inside = leaf-inside s _ old (p .here) (p .fixed) in
+    let t = entry-tells s _ old (p .here) in
+    let is-leaf = is-a-leaf s old (old .asid) (from-present (p .place)) in
+    let apart = leaf-apart s _ _ old is-leaf (p .here) (not-a-leaf MERGEABLE (p .type) (omega arith)) in
+    let address = present-address _ gpa (sym (consulted-is s old (old .asid) is-leaf) ∙ p .place) in
+    let fits = page-fits (N s) (old .asid) MERGEABLE true gpa (mergeable-owned _ refl) (t .owned-asid (mergeable-owned _ (p .type)))
+        (t .asid-small) address in
+    let e = entry (old .asid) MERGEABLE true false gpa in
+    let first = put-after (nothing-yet s) (frameOf hpa) e (p .inside) fits in
+    let paged = withEntry s (frameOf hpa) e in
+    let n : N paged ≡ N s = size-entry s _ e .same-N in
+    let below : leafFrame old < N paged = rw n inside in
+    let second =
+        put-before (leafFrame old) zeroEntry (put-after (nothing-yet paged) _ zeroEntry below (zero-fits (N paged)))
+        (memory-zeros _ (leafFrame old)) in
+    rw (unfixed-is old gpa (p .type) (t .fixed-validated (p .fixed)))
+    (record {
+      same-size = size-trans (first .same-size) (second .same-size);
+      is-leaf = is-leaf;
+      apart = apart;
+      here = second .elsewhere _ (λ same. apart (sym same)) ∙ first .here;
+      leaf-here = second .here;
+      elsewhere = λ g other off. second .elsewhere g off ∙ first .elsewhere g other;
+      words = λ g i off. word-beside-zeros _ _ g i off ∙ word-after-entry paged _ zeroEntry g i ∙ word-after-entry s _ e g i;
+    })

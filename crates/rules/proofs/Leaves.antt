@@ -1,0 +1,109 @@
+-- Leaves: when the word consulted stays, that it comes from a LEAF unless it is broken, that a LEAF is no other frame, and what the tests
+-- of 15 and 17 tell when they fail: no fixed page names this leaf, and no other guest has a place there.
+-- Assumes nothing.
+use mathlib.Core.Path.{_≡_, refl, sym, _∙_}
+use mathlib.Core.Bool.{Bool, true, false, false≢true}
+use mathlib.Core.Logic.{_≢_, _⊎_, inl, inr, ⊎-elim}
+use Prim.Native.Nat.{ℕ, zero, suc, _+_, _*_, _-_, _/_, _%_, _<_, _≤_}
+use native.Mathlib.Omega.{arith}
+use lib.Dec.{eqb}
+use borrow.Author.Tests.{eqb-true, eqb-false, eq-eqb, ne-eqb}
+use Rattle.words.specs.Choice.{pick, _and_, _or_}
+use Rattle.words.proofs.ChoiceLaws.{same-or-not, pick-true, pick-false}
+use Rattle.entries.specs.Entry.{LEAF, frameOf, isAddress}
+use Rattle.entries.specs.Leaf.{leafWord}
+use Rattle.entries.specs.declared.entry.Entry.{Entry}
+use Rattle.entries.specs.declared.entry.Decoded.{Decoded}
+use Rattle.entries.specs.declared.entry.Decoded.the-variants.{Good, Bad}
+use Rattle.entries.specs.declared.leaf.LeafWord.{LeafWord}
+use Rattle.entries.specs.declared.leaf.LeafWord.the-variants.{Absent, Present, Misshapen}
+use Rattle.entries.proofs.LeafLaws.{address-whole}
+use Rattle.entries.proofs.Tells.{false-not-true}
+use Rattle.rules.specs.Leaves.{leafFrame, isLeaf, consulted, namesLeaf, leafInUse, isSharedBy, stillShared}
+use Rattle.rules.specs.State.{State, N, entryAt, wordAt}
+use Rattle.rules.proofs.StateLaws.{entry-inside, entry-tells}
+
+-- ---- the word consulted
+pub consulted-same :
+    (s u : State) (page : Entry) (guest : ℕ) → entryAt u (leafFrame page) ≡ entryAt s (leafFrame page)
+    → wordAt u (leafFrame page) guest ≡ wordAt s (leafFrame page) guest → consulted u page guest ≡ consulted s page guest
+unfolding consulted
+consulted-same s u page guest e w = rw (e, w)
+
+module _ (s : State) (page : Entry) (guest : ℕ) where
+  pub consulted-is : isLeaf (entryAt s (leafFrame page)) ≡ true → consulted s page guest ≡ leafWord (wordAt s (leafFrame page) guest)
+  unfolding consulted
+  consulted-is h = pick-true _ _ h
+
+  pub is-a-leaf : (consulted s page guest ≡ Misshapen → ⊥) → isLeaf (entryAt s (leafFrame page)) ≡ true
+  unfolding consulted
+  is-a-leaf unbroken = go (isLeaf (entryAt s (leafFrame page))) unbroken
+    where
+      go : (t : Bool) → (pick t (leafWord (wordAt s (leafFrame page) guest)) Misshapen ≡ Misshapen → ⊥) → t ≡ true
+      go true h = refl
+      go false h = absurd (h (pick-false _ _ refl))
+
+-- a LEAF is a good entry of its own type
+leaf-kind : (d : Decoded) (e : Entry) → isLeaf d ≡ true → d ≡ Good e → e .kind ≡ LEAF
+unfolding isLeaf
+leaf-kind (Good d) e h g = let q : d ≡ e = cc in rw (← q) (eqb-true _ _ h)
+leaf-kind Bad e h g = absurd (false≢true h)
+
+pub leaf-apart : (s : State) (f g : ℕ) (e : Entry) → isLeaf (entryAt s f) ≡ true → entryAt s g ≡ Good e → e .kind ≢ LEAF → f ≢ g
+leaf-apart s f g e h here other same = other (leaf-kind (entryAt s g) e (rw (← same) h) here)
+
+-- the leaf of a fixed page is in the table
+pub leaf-inside : (s : State) (f : ℕ) (page : Entry) → entryAt s f ≡ Good page → page .fixed ≡ true → leafFrame page < N s
+unfolding leafFrame
+leaf-inside s f page here fixed = entry-tells s f page here .fixed-leaf fixed
+
+-- ---- 15: a leaf that is not in use
+not-named : (s t : Bool) → s or t ≡ false → (s ≡ false) × (t ≡ false)
+unfolding _or_
+not-named true t h = absurd (false≢true (sym h))
+not-named false t h = (refl, h)
+
+names-not : (e : Entry) (leaf : ℕ) → e .fixed ≡ true → namesLeaf (Good e) leaf ≡ false → e .address ≢ leaf
+unfolding namesLeaf _and_
+names-not e leaf fixed free same = absurd (false≢true (sym free ∙ rw (fixed, eq-eqb _ _ same)))
+
+unused-below :
+    (s : State) (leaf n f : ℕ) (e : Entry) → leafInUse s leaf n ≡ false → f < n → entryAt s f ≡ Good e → e .fixed ≡ true
+    → e .address ≢ leaf
+unfolding leafInUse
+unused-below s leaf zero f e free below here fixed = let z : ⊥ = omega arith in absurd z
+unused-below s leaf (suc n) f e free below here fixed =
+    ⊎-elim (λ same. names-not e leaf fixed (rw (← here) (rw same (not-named _ _ free .1))))
+    (λ other. unused-below s leaf n f e (not-named _ _ free .0) (omega (arith, other)) here fixed)
+    (same-or-not f n)
+
+same-frame : (a b : ℕ) → isAddress a ≡ true → isAddress b ≡ true → frameOf a ≡ frameOf b → a ≡ b
+unfolding frameOf
+same-frame a b h k same = let p = address-whole a h in let q = address-whole b k in omega arith
+
+pub unused-leaf :
+    (s : State) (leaf f : ℕ) (e : Entry) → leafInUse s leaf (N s) ≡ false → isAddress leaf ≡ true → entryAt s f ≡ Good e → e .fixed ≡ true
+    → leafFrame e ≢ frameOf leaf
+unfolding leafFrame
+unused-leaf s leaf f e free address here fixed same =
+    unused-below s leaf (N s) f e free (entry-inside s f e here) here fixed
+    (same-frame _ _ (entry-tells s f e here .address-fits) address same)
+
+-- ---- 17: a leaf that no other guest shares
+even-absent : (w : ℕ) → eqb (w % 2) 1 ≡ false → leafWord w ≡ Absent
+unfolding leafWord
+even-absent w h = let odd = eqb-false (w % 2) 1 h in pick-true _ _ (eq-eqb (w % 2) 0 (omega (arith, odd)))
+
+shared-not : (owner guest w : ℕ) → guest ≢ owner → isSharedBy owner guest w ≡ false → leafWord w ≡ Absent
+unfolding isSharedBy _and_
+shared-not owner guest w other h = even-absent w (rw (← h, ne-eqb _ _ other))
+
+pub unshared-word :
+    (s : State) (frame owner n guest : ℕ) → stillShared s frame owner n ≡ false → guest < n → guest ≢ owner
+    → leafWord (wordAt s frame guest) ≡ Absent
+unfolding stillShared
+unshared-word s frame owner zero guest free below other = let z : ⊥ = omega arith in absurd z
+unshared-word s frame owner (suc n) guest free below other =
+    ⊎-elim (λ same. rw same (shared-not owner n _ (rw (← same) other) (not-named _ _ free .1)))
+    (λ apart. unshared-word s frame owner n guest (not-named _ _ free .0) (omega (arith, apart)) other)
+    (same-or-not guest n)

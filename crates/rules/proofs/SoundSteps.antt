@@ -1,0 +1,249 @@
+-- Every call keeps a state sound: the entries that it puts are well formed, PFIX alone makes a fixed page, with a leaf that no other has,
+-- and every word consulted afterwards was consulted before or is the one that the call wrote.
+-- Assumes nothing.
+use mathlib.Core.Path.{_≡_, refl, sym, _∙_}
+use mathlib.Core.Bool.{true, false, false≢true}
+use mathlib.Core.Logic.{_≢_, _⊎_, inl, inr, ⊎-elim}
+use Prim.Native.Nat.{ℕ, _<_}
+use Rattle.words.proofs.ChoiceLaws.{same-or-not}
+use Rattle.entries.specs.Entry.{MERGEABLE, frameOf, entry, zeroEntry}
+use Rattle.entries.specs.declared.entry.Entry.{Entry}
+use Rattle.entries.specs.declared.entry.Decoded.the-variants.{Good, Bad}
+use Rattle.entries.specs.declared.leaf.LeafWord.{LeafWord}
+use Rattle.entries.specs.declared.leaf.LeafWord.the-variants.{Misshapen}
+use Rattle.entries.proofs.Tells.{false-not-true}
+use Rattle.rules.specs.Assignment.{assigning, validating}
+use Rattle.rules.specs.Calls.{Call, RMPUPDATE, PVALIDATE, PFIX, PMERGE, PUNMERGE, PUNFIX, READ, WRITE, CENSUS, step}
+use Rattle.rules.specs.Leaves.{leafFrame, consulted}
+use Rattle.rules.specs.Merging.{fixing, merging, unmerging, unfixing}
+use Rattle.rules.specs.State.{State, N, entryAt, withWord}
+use Rattle.rules.proofs.ArgumentLaws.{two-addresses}
+use Rattle.rules.proofs.Consulted.{assigned-consulted, validated-consulted, fixed-consulted, merged-consulted, unmerged-consulted}
+use Rattle.rules.proofs.Consulted.{unfixed-consulted, written-consulted, fixed-owner, fixed-others, merged-here, merged-others}
+use Rattle.rules.proofs.Consulted.{unmerged-here, unmerged-others}
+use Rattle.rules.proofs.Effects.{Put, assigned, validated-page, FixedUp, fixed-page, merged-page, unmerged-page, UnfixedTo, unfixed-page}
+use Rattle.rules.proofs.Effects.{from-absent, from-present}
+use Rattle.rules.proofs.Leaves.{unused-leaf}
+use Rattle.rules.proofs.Passed.{Updated, Validated, Fixed, Merged, Unmerged, Unfixed, Way, Accessed}
+use Rattle.rules.proofs.Passed.{rmpupdate-cases, pvalidate-cases, pfix-cases, pmerge-cases, punmerge-cases, punfix-cases, write-cases}
+use Rattle.rules.proofs.Sound.{Sound}
+use Rattle.rules.proofs.StateLaws.{SameSize, entry-after-word, size-word}
+use Rattle.rules.proofs.Steps.{read-keeps, census-keeps}
+
+-- two readings of one frame are one entry, and not both good and bad
+pub same-good : (s : State) (g f : ℕ) (d e : Entry) → entryAt s g ≡ Good d → entryAt s f ≡ Good e → g ≡ f → d ≡ e
+same-good s g f d e h k same = cc
+
+not-bad : (s : State) (g f : ℕ) (d : Entry) → entryAt s f ≡ Good d → g ≡ f → entryAt s g ≡ Bad → ⊥
+not-bad s g f d h same k = absurd (false≢true (cc))
+
+-- a fixed page is not at a frame whose entry is not fixed
+unfixed-apart :
+    (u : State) (f : ℕ) (e : Entry) → entryAt u f ≡ Good e → e .fixed ≡ false
+    → (g : ℕ) (d : Entry) → entryAt u g ≡ Good d → d .fixed ≡ true → g ≢ f
+unfixed-apart u f e there unfixed g d here fixed same =
+    false-not-true unfixed (rw (← (same-good u g f d e here there same)) fixed)
+
+module _ (s : State) (sound : Sound s) where
+  -- a state with no fixed page that was not there before
+  no-new-page :
+      (u : State) → ((f : ℕ) → f < N u → entryAt u f ≡ Bad → ⊥)
+      → ((f : ℕ) (e : Entry) → entryAt u f ≡ Good e → e .fixed ≡ true → entryAt s f ≡ Good e)
+      → ((f : ℕ) (e : Entry) (guest : ℕ) → entryAt u f ≡ Good e → e .fixed ≡ true → consulted u e guest ≡ Misshapen → ⊥)
+      → Sound u
+  no-new-page u decodes was unbroken =
+      record {
+        decodes = decodes;
+        alone = λ f g d e hd he fd fe same. sound .alone f g d e (was f d hd fd) (was g e he fe) fd fe same;
+        unbroken = unbroken;
+      }
+
+  -- what stays of the entries and of the words consulted
+  put-decodes : {u : State} {f : ℕ} {e : Entry} → Put s u f e → (g : ℕ) → g < N u → entryAt u g ≡ Bad → ⊥
+  put-decodes {f = f} p g inside bad =
+      ⊎-elim (λ same. not-bad _ g f _ (p .here) same bad)
+      (λ other. sound .decodes g (rw (← (p .same-size .same-N)) inside) (sym (p .elsewhere g other) ∙ bad))
+      (same-or-not g f)
+
+  put-was :
+      {u : State} {f : ℕ} {e : Entry} → Put s u f e → e .fixed ≡ false → (g : ℕ) (d : Entry) → entryAt u g ≡ Good d → d .fixed ≡ true
+      → entryAt s g ≡ Good d
+  put-was p unfixed g d here fixed = sym (p .elsewhere g (unfixed-apart _ _ _ (p .here) unfixed g d here fixed)) ∙ here
+
+  still-unbroken :
+      (g : ℕ) (d : Entry) (guest : ℕ) {w : LeafWord} → entryAt s g ≡ Good d → d .fixed ≡ true → w ≡ consulted s d guest → w ≡ Misshapen → ⊥
+  still-unbroken g d guest page fixed same broken = sound .unbroken g d guest page fixed (sym same ∙ broken)
+
+  assigning-sound :
+      (caller hpa gpa asid kind : ℕ) (old : Entry) → Updated s caller hpa gpa asid kind old
+      → Sound (assigning s (frameOf hpa) old gpa asid kind)
+  unfolding entry
+  assigning-sound caller hpa gpa asid kind old p =
+      let e = assigned s caller hpa gpa asid kind old p .put in
+      no-new-page _ (put-decodes e) (put-was e refl)
+      (λ g d guest here fixed.
+      let page = put-was e refl g d here fixed in
+      still-unbroken g d guest page fixed (assigned-consulted s sound g d page fixed guest caller hpa gpa asid kind old p))
+
+  validating-sound :
+      (caller gpa hpa kind : ℕ) (old : Entry) → Validated s caller gpa hpa kind old → Sound (validating s (frameOf hpa) old)
+  unfolding entry
+  validating-sound caller gpa hpa kind old p =
+      let e = validated-page s caller gpa hpa kind old p .put in
+      no-new-page _ (put-decodes e) (put-was e refl)
+      (λ g d guest here fixed.
+      let page = put-was e refl g d here fixed in
+      still-unbroken g d guest page fixed (validated-consulted s sound g d page fixed guest caller gpa hpa kind old p))
+
+  merging-sound :
+      (caller hpa1 hpa2 : ℕ) (one two : Entry) → Merged s caller hpa1 hpa2 one two → Sound (merging s one (frameOf hpa2) two)
+  unfolding zeroEntry entry
+  merging-sound caller hpa1 hpa2 one two p =
+      let e = merged-page s caller hpa1 hpa2 one two p .put in
+      no-new-page _ (put-decodes e) (put-was e refl)
+      (λ g d guest here fixed.
+      let page = put-was e refl g d here fixed in
+      ⊎-elim
+      (λ same. rw (same-good s g _ d one page (p .here1) same) (in-leaf guest))
+      (λ other. still-unbroken g d guest page fixed (merged-consulted s sound g d page fixed guest caller hpa1 hpa2 one two p other))
+      (same-or-not g (frameOf hpa1)))
+    where
+      in-leaf : (guest : ℕ) → consulted (merging s one (frameOf hpa2) two) one guest ≡ Misshapen → ⊥
+      in-leaf guest =
+          ⊎-elim
+          (λ same. rw same (from-present (merged-here s caller hpa1 hpa2 one two p)))
+          (λ other. still-unbroken (frameOf hpa1) one guest (p .here1) (p .fixed1) (merged-others s caller hpa1 hpa2 one two p guest other))
+          (same-or-not guest (two .asid))
+
+  unmerging-sound :
+      (caller hpa1 hpa2 asid : ℕ) (one two : Entry) (gpa : ℕ) → Unmerged s caller hpa1 hpa2 asid one two gpa
+      → Sound (unmerging s (frameOf hpa1) one (frameOf hpa2) asid gpa)
+  unfolding entry
+  unmerging-sound caller hpa1 hpa2 asid one two gpa p =
+      let e = unmerged-page s caller hpa1 hpa2 asid one two gpa p .put in
+      no-new-page _ (put-decodes e) (put-was e refl)
+      (λ g d guest here fixed.
+      let page = put-was e refl g d here fixed in
+      ⊎-elim
+      (λ same. rw (same-good s g _ d one page (p .here1) same) (in-leaf guest))
+      (λ other. still-unbroken g d guest page fixed
+      (unmerged-consulted s sound g d page fixed guest caller hpa1 hpa2 asid one two gpa p other))
+      (same-or-not g (frameOf hpa1)))
+    where
+      in-leaf : (guest : ℕ) → consulted (unmerging s (frameOf hpa1) one (frameOf hpa2) asid gpa) one guest ≡ Misshapen → ⊥
+      in-leaf guest =
+          ⊎-elim
+          (λ same. rw same (from-absent (unmerged-here s caller hpa1 hpa2 asid one two gpa p)))
+          (λ other. still-unbroken (frameOf hpa1) one guest (p .here1) (p .fixed1)
+          (unmerged-others s caller hpa1 hpa2 asid one two gpa p guest other))
+          (same-or-not guest asid)
+
+  unfixing-sound :
+      (caller hpa : ℕ) (old : Entry) (gpa : ℕ) → Unfixed s caller hpa old gpa → Sound (unfixing s (frameOf hpa) old gpa)
+  unfolding zeroEntry entry
+  unfixing-sound caller hpa old gpa p =
+      no-new-page _ decodes (λ g d here fixed. sym (e .elsewhere g (off g d here fixed .0) (off g d here fixed .1)) ∙ here)
+      (λ g d guest here fixed.
+      let apart = off g d here fixed in
+      let page = sym (e .elsewhere g (apart .0) (apart .1)) ∙ here in
+      still-unbroken g d guest page fixed (unfixed-consulted s sound g d page fixed guest caller hpa old gpa p (apart .0)))
+    where
+      e : UnfixedTo s (unfixing s (frameOf hpa) old gpa) (frameOf hpa) (leafFrame old) (entry (old .asid) MERGEABLE true false gpa)
+      e = unfixed-page s caller hpa old gpa p
+
+      off : (g : ℕ) (d : Entry) → entryAt (unfixing s (frameOf hpa) old gpa) g ≡ Good d → d .fixed ≡ true
+          → (g ≢ frameOf hpa) × (g ≢ leafFrame old)
+      off g d here fixed =
+          (unfixed-apart _ _ _ (e .here) refl g d here fixed, unfixed-apart _ _ _ (e .leaf-here) refl g d here fixed)
+
+      decodes : (g : ℕ) → g < N (unfixing s (frameOf hpa) old gpa) → entryAt (unfixing s (frameOf hpa) old gpa) g ≡ Bad → ⊥
+      decodes g inside bad =
+          ⊎-elim (λ same. not-bad _ g _ _ (e .here) same bad)
+          (λ other. ⊎-elim (λ same. not-bad _ g _ _ (e .leaf-here) same bad)
+          (λ off. sound .decodes g (rw (← (e .same-size .same-N)) inside) (sym (e .elsewhere g other off) ∙ bad))
+          (same-or-not g (leafFrame old)))
+          (same-or-not g (frameOf hpa))
+
+  writing-sound : (caller gpa f gtype i value : ℕ) → Way s true caller gpa f gtype → Sound (withWord s f i value)
+  writing-sound caller gpa f gtype i value w =
+      no-new-page _ (λ g inside bad. sound .decodes g (rw (← (size-word s f i value .same-N)) inside) (sym (same g) ∙ bad))
+      (λ g d here fixed. sym (same g) ∙ here)
+      (λ g d guest here fixed.
+      let page = sym (same g) ∙ here in
+      still-unbroken g d guest page fixed (written-consulted s sound g d page fixed caller gpa f gtype i value guest w))
+    where
+      same : (g : ℕ) → entryAt (withWord s f i value) g ≡ entryAt s g
+      same g = entry-after-word s f i value g
+
+  -- PFIX makes one fixed page
+  module _ (caller hpa leaf : ℕ) (old : Entry) (p : Fixed s caller hpa leaf old) where
+    abbrev u : State
+    u = fixing s (frameOf hpa) old leaf
+
+    abbrev new : Entry
+    new = entry (old .asid) MERGEABLE true true leaf
+
+    e : FixedUp s u (frameOf hpa) (frameOf leaf) old new
+    e = fixed-page s caller hpa leaf old p
+
+    was : (g : ℕ) (d : Entry) → entryAt u g ≡ Good d → g ≢ frameOf hpa → entryAt s g ≡ Good d
+    was g d here other = sym (e .put .elsewhere g other) ∙ here
+
+    -- another fixed page has another leaf
+    other-leaf : (g : ℕ) (d : Entry) → entryAt u g ≡ Good d → d .fixed ≡ true → g ≢ frameOf hpa → leafFrame d ≢ leafFrame new
+    unfolding leafFrame entry
+    other-leaf g d here fixed other =
+        unused-leaf s leaf g d (p .unused) (two-addresses caller hpa leaf (p .arguments) .1) (was g d here other) fixed
+
+    new-unbroken : (guest : ℕ) → consulted u new guest ≡ Misshapen → ⊥
+    new-unbroken guest =
+        ⊎-elim (λ same. rw same (from-present (fixed-owner s caller hpa leaf old p)))
+        (λ other. from-absent (fixed-others s caller hpa leaf old p guest other))
+        (same-or-not guest (old .asid))
+
+    fixing-alone :
+        (f g : ℕ) (c d : Entry) → entryAt u f ≡ Good c → entryAt u g ≡ Good d → c .fixed ≡ true → d .fixed ≡ true
+        → leafFrame c ≡ leafFrame d → f ≡ g
+    fixing-alone f g c d hc hd fc fd same =
+        ⊎-elim
+        (λ at. ⊎-elim (λ too. at ∙ sym too)
+        (λ off. absurd (other-leaf g d hd fd off (sym same ∙ rw (same-good u f _ c new hc (e .put .here) at))))
+        (same-or-not g (frameOf hpa)))
+        (λ off. ⊎-elim (λ too. absurd (other-leaf f c hc fc off (same ∙ rw (same-good u g _ d new hd (e .put .here) too))))
+        (λ away. sound .alone f g c d (was f c hc off) (was g d hd away) fc fd same)
+        (same-or-not g (frameOf hpa)))
+        (same-or-not f (frameOf hpa))
+
+    fixing-sound : Sound u
+    fixing-sound =
+        record {
+          decodes = put-decodes (e .put);
+          alone = fixing-alone;
+          unbroken = λ g d guest here fixed.
+              ⊎-elim (λ same. rw (same-good u g _ d new here (e .put .here) same) (new-unbroken guest))
+              (λ other.
+              let page = was g d here other in
+              still-unbroken g d guest page fixed (fixed-consulted s sound g d page fixed guest caller hpa leaf old p))
+              (same-or-not g (frameOf hpa));
+        }
+
+-- ---- any call
+pub step-sound : (s : State) (c : Call) → Sound s → Sound (step s c .after)
+unfolding step
+step-sound s (RMPUPDATE caller hpa gpa asid kind) sound =
+    rmpupdate-cases (λ o. Sound (o .after)) s (λ n why. sound) caller hpa gpa asid kind (assigning-sound s sound caller hpa gpa asid kind)
+step-sound s (PVALIDATE caller gpa hpa kind) sound =
+    pvalidate-cases (λ o. Sound (o .after)) s (λ n why. sound) caller gpa hpa kind (validating-sound s sound caller gpa hpa kind)
+step-sound s (PFIX caller hpa leaf) sound =
+    pfix-cases (λ o. Sound (o .after)) s (λ n why. sound) caller hpa leaf (fixing-sound s sound caller hpa leaf)
+step-sound s (PMERGE caller hpa1 hpa2) sound =
+    pmerge-cases (λ o. Sound (o .after)) s (λ n why. sound) caller hpa1 hpa2 (merging-sound s sound caller hpa1 hpa2)
+step-sound s (PUNMERGE caller hpa1 hpa2 asid) sound =
+    punmerge-cases (λ o. Sound (o .after)) s (λ n why. sound) caller hpa1 hpa2 asid (unmerging-sound s sound caller hpa1 hpa2 asid)
+step-sound s (PUNFIX caller hpa) sound =
+    punfix-cases (λ o. Sound (o .after)) s (λ n why. sound) caller hpa (unfixing-sound s sound caller hpa)
+step-sound s (READ caller gpa hpa gtype ntype index) sound = rw (read-keeps s caller gpa hpa gtype ntype index) sound
+step-sound s (WRITE caller gpa hpa gtype ntype index value) sound =
+    write-cases (λ o. Sound (o .after)) s (λ n why. sound) caller gpa hpa gtype ntype index value
+    (λ p. writing-sound s sound caller gpa (frameOf hpa) gtype index value (p .way))
+step-sound s (CENSUS asid) sound = rw (census-keeps s asid) sound
