@@ -14,21 +14,16 @@ use Rattle.entries.specs.declared.entry.Entry.{Entry}
 use Rattle.entries.specs.declared.entry.Decoded.the-variants.{Good}
 use Rattle.entries.specs.declared.leaf.LeafWord.the-variants.{Absent, Present}
 use Rattle.entries.proofs.LeafLaws.{leaf-present, leaf-absent}
-use Rattle.entries.proofs.Tells.{owned-kinds}
 use Rattle.rules.specs.Assignment.{assigning, validating}
 use Rattle.rules.specs.Leaves.{leafFrame, isLeaf, consulted}
 use Rattle.rules.specs.Merging.{fixing, merging, unmerging, unfixing}
 use Rattle.rules.specs.State.{State, N, entryAt, wordAt, withWord}
 use Rattle.rules.proofs.ArgumentLaws.{validate-tells, two-addresses}
-use Rattle.rules.proofs.Effects.{Put, assigned, validated-page, fixed-page, merged-page, unmerged-page, unfixed-page, not-a-leaf}
-use Rattle.rules.proofs.Leaves.{consulted-same, consulted-is, is-a-leaf, leaf-apart, leaf-inside, unused-leaf}
+use Rattle.rules.proofs.Effects.{Put, assigned, validated-page, fixed-page, merged-page, unmerged-page, unfixed-page}
+use Rattle.rules.proofs.Leaves.{consulted-same, consulted-is, is-a-leaf, leaf-apart, not-a-leaf, owned-no-leaf, leaf-inside, unused-leaf}
 use Rattle.rules.proofs.Passed.{Updated, Validated, Fixed, Merged, Unmerged, Unfixed, Way, above, shared, own, merged}
 use Rattle.rules.proofs.Sound.{Sound}
 use Rattle.rules.proofs.StateLaws.{entry-tells, entry-after-word, word-elsewhere}
-
--- an owned type is not LEAF
-pub owned-no-leaf : (kind : ℕ) → isOwned kind ≡ true → kind ≢ LEAF
-owned-no-leaf kind o = ⊎-elim (λ k. not-a-leaf 1 k (omega arith)) (λ k. not-a-leaf 2 k (omega arith)) (owned-kinds kind o)
 
 module _ (s : State) (sound : Sound s) (g : ℕ) (d : Entry) (page : entryAt s g ≡ Good d) (fixed : d .fixed ≡ true) where
   -- the leaf of a fixed page is no frame of another type

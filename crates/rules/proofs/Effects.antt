@@ -9,7 +9,7 @@ use native.Mathlib.Omega.{arith}
 use lib.Dec.{eqb}
 use Rattle.words.specs.Choice.{pick, _or_}
 use Rattle.words.proofs.ChoiceLaws.{pick-true, pick-false}
-use Rattle.entries.specs.Entry.{SHARED, MERGEABLE, LEAF, frameOf, isOwned, isUnowned, entry, zeroEntry, wellFormed, toValidated, toFixed, toUnfixed}
+use Rattle.entries.specs.Entry.{SHARED, MERGEABLE, frameOf, isOwned, isUnowned, entry, zeroEntry, wellFormed, toValidated, toFixed, toUnfixed}
 use Rattle.entries.specs.Leaf.{presentAt}
 use Rattle.entries.specs.declared.entry.Entry.{Entry}
 use Rattle.entries.specs.declared.entry.Decoded.the-variants.{Good}
@@ -22,7 +22,7 @@ use Rattle.rules.specs.Leaves.{leafFrame, isLeaf, consulted}
 use Rattle.rules.specs.Merging.{fixing, merging, unmerging, unfixing}
 use Rattle.rules.specs.State.{State, N, M, sized, entryAt, wordAt, withEntry, withWord, withZeros, withCopy}
 use Rattle.rules.proofs.ArgumentLaws.{update-tells, update-fits, validate-tells, two-addresses, unmerge-tells}
-use Rattle.rules.proofs.Leaves.{consulted-is, is-a-leaf, leaf-apart, leaf-inside}
+use Rattle.rules.proofs.Leaves.{consulted-is, is-a-leaf, leaf-apart, not-a-leaf, leaf-inside}
 use Rattle.rules.proofs.Passed.{Updated, Validated, Fixed, Merged, Unmerged, Unfixed}
 use Rattle.rules.proofs.StateLaws.{SameSize, size-refl, size-trans, size-entry, size-word, size-zeros, size-copy, sizes, entry-tells}
 use Rattle.rules.proofs.StateLaws.{entry-after-entry, entry-elsewhere, entry-after-word, entry-after-zeros, entry-after-copy}
@@ -158,9 +158,6 @@ from-absent h k = absurd (false≢true (cc))
 pub from-present : {w : LeafWord} {gpa : ℕ} → w ≡ Present gpa → w ≡ Misshapen → ⊥
 from-present h k = absurd (false≢true (cc))
 
-pub not-a-leaf : {kind : ℕ} (other : ℕ) → kind ≡ other → other < LEAF → kind ≢ LEAF
-not-a-leaf other h l same = let z : ⊥ = omega arith in absurd z
-
 zero-fits : (n : ℕ) → wellFormed n zeroEntry ≡ true
 unfolding zeroEntry isUnowned _or_
 zero-fits n = unowned-fits n SHARED refl
@@ -204,7 +201,7 @@ pub record UnmergedTo (s u : State) (f1 f2 leaf asid : ℕ) (e : Entry) : Type 0
 pub unmerged-page :
     (s : State) (caller hpa1 hpa2 asid : ℕ) (one two : Entry) (gpa : ℕ) → Unmerged s caller hpa1 hpa2 asid one two gpa
     → UnmergedTo s (unmerging s (frameOf hpa1) one (frameOf hpa2) asid gpa) (frameOf hpa1) (frameOf hpa2) (leafFrame one) asid
-      (entry asid MERGEABLE true false gpa)
+    (entry asid MERGEABLE true false gpa)
 unfolding unmerging
 unmerged-page s caller hpa1 hpa2 asid one two gpa p =
     let inside = leaf-inside s _ one (p .here1) (p .fixed1) in
@@ -255,15 +252,15 @@ unfixed-page s caller hpa old gpa p =
     let apart = leaf-apart s _ _ old is-leaf (p .here) (not-a-leaf MERGEABLE (p .type) (omega arith)) in
     let address = present-address _ gpa (sym (consulted-is s old (old .asid) is-leaf) ∙ p .place) in
     let fits = page-fits (N s) (old .asid) MERGEABLE true gpa (mergeable-owned _ refl) (t .owned-asid (mergeable-owned _ (p .type)))
-        (t .asid-small) address in
+    (t .asid-small) address in
     let e = entry (old .asid) MERGEABLE true false gpa in
     let first = put-after (nothing-yet s) (frameOf hpa) e (p .inside) fits in
     let paged = withEntry s (frameOf hpa) e in
     let n : N paged ≡ N s = size-entry s _ e .same-N in
     let below : leafFrame old < N paged = rw n inside in
     let second =
-        put-before (leafFrame old) zeroEntry (put-after (nothing-yet paged) _ zeroEntry below (zero-fits (N paged)))
-        (memory-zeros _ (leafFrame old)) in
+    put-before (leafFrame old) zeroEntry (put-after (nothing-yet paged) _ zeroEntry below (zero-fits (N paged)))
+    (memory-zeros _ (leafFrame old)) in
     rw (unfixed-is old gpa (p .type) (t .fixed-validated (p .fixed)))
     (record {
       same-size = size-trans (first .same-size) (second .same-size);

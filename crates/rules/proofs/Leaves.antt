@@ -10,7 +10,7 @@ use lib.Dec.{eqb}
 use borrow.Author.Tests.{eqb-true, eqb-false, eq-eqb, ne-eqb}
 use Rattle.words.specs.Choice.{pick, _and_, _or_}
 use Rattle.words.proofs.ChoiceLaws.{same-or-not, pick-true, pick-false}
-use Rattle.entries.specs.Entry.{LEAF, frameOf, isAddress}
+use Rattle.entries.specs.Entry.{PRIVATE, MERGEABLE, LEAF, frameOf, isAddress, isOwned}
 use Rattle.entries.specs.Leaf.{leafWord}
 use Rattle.entries.specs.declared.entry.Entry.{Entry}
 use Rattle.entries.specs.declared.entry.Decoded.{Decoded}
@@ -18,7 +18,7 @@ use Rattle.entries.specs.declared.entry.Decoded.the-variants.{Good, Bad}
 use Rattle.entries.specs.declared.leaf.LeafWord.{LeafWord}
 use Rattle.entries.specs.declared.leaf.LeafWord.the-variants.{Absent, Present, Misshapen}
 use Rattle.entries.proofs.LeafLaws.{address-whole}
-use Rattle.entries.proofs.Tells.{false-not-true}
+use Rattle.entries.proofs.Tells.{owned-kinds}
 use Rattle.rules.specs.Leaves.{leafFrame, isLeaf, consulted, namesLeaf, leafInUse, isSharedBy, stillShared}
 use Rattle.rules.specs.State.{State, N, entryAt, wordAt}
 use Rattle.rules.proofs.StateLaws.{entry-inside, entry-tells}
@@ -43,14 +43,24 @@ module _ (s : State) (page : Entry) (guest : ℕ) where
       go true h = refl
       go false h = absurd (h (pick-false _ _ refl))
 
--- a LEAF is a good entry of its own type
-leaf-kind : (d : Decoded) (e : Entry) → isLeaf d ≡ true → d ≡ Good e → e .kind ≡ LEAF
+-- ---- a LEAF is a good entry of its own type, and no frame of another type
+pub leaf-good : (d : Decoded) → isLeaf d ≡ true → (e : Entry) × ((d ≡ Good e) × (e .kind ≡ LEAF))
 unfolding isLeaf
-leaf-kind (Good d) e h g = let q : d ≡ e = cc in rw (← q) (eqb-true _ _ h)
-leaf-kind Bad e h g = absurd (false≢true h)
+leaf-good (Good e) h = (e, (refl, eqb-true _ _ h))
+leaf-good Bad h = absurd (false≢true h)
 
 pub leaf-apart : (s : State) (f g : ℕ) (e : Entry) → isLeaf (entryAt s f) ≡ true → entryAt s g ≡ Good e → e .kind ≢ LEAF → f ≢ g
-leaf-apart s f g e h here other same = other (leaf-kind (entryAt s g) e (rw (← same) h) here)
+leaf-apart s f g e h here other same =
+    let leaf = leaf-good (entryAt s f) h in
+    let there = leaf .1 .0 in
+    let one : leaf .0 ≡ e = cc in
+    other (rw (← one) (leaf .1 .1))
+
+pub not-a-leaf : {kind : ℕ} (other : ℕ) → kind ≡ other → other < LEAF → kind ≢ LEAF
+not-a-leaf other h l same = let z : ⊥ = omega arith in absurd z
+
+pub owned-no-leaf : (kind : ℕ) → isOwned kind ≡ true → kind ≢ LEAF
+owned-no-leaf kind o = ⊎-elim (λ k. not-a-leaf PRIVATE k (omega arith)) (λ k. not-a-leaf MERGEABLE k (omega arith)) (owned-kinds kind o)
 
 -- the leaf of a fixed page is in the table
 pub leaf-inside : (s : State) (f : ℕ) (page : Entry) → entryAt s f ≡ Good page → page .fixed ≡ true → leafFrame page < N s

@@ -1,5 +1,7 @@
 -- The laws of the rules, which proofs cite instead of opening the definitions.
+pub mod AccessChanges
 pub mod ArgumentLaws
+pub mod AssignmentChanges
 pub mod CensusLaws
 pub mod Chain
 pub mod Changes
@@ -7,12 +9,20 @@ pub mod Computed
 pub mod Consulted
 pub mod Effects
 pub mod Examples
+pub mod History
+pub mod HistoryFrom
+pub mod HistoryLists
+pub mod Holdings
 pub mod Leaves
+pub mod MergingChanges
 pub mod Never
 pub mod Passed
+pub mod PlaceLaws
 pub mod Reason
 pub mod Sound
 pub mod SoundSteps
 pub mod StateLaws
+pub mod StepChanges
 pub mod Steps
 pub mod Sums
+pub mod Ways

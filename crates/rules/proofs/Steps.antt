@@ -91,7 +91,7 @@ answered-already old = go (old .validated)
     go true h = refl
     go false h = absurd (false≢true (cc))
 
-validated-again :
+pub validated-again :
     (s : State) (frame : ℕ) (old : Entry) → entryAt s frame ≡ Good old → old .validated ≡ true → validating s frame old ≡ s
 unfolding validating
 validated-again s frame old here v = rw (validated-is old v) (same-entry s frame old here)

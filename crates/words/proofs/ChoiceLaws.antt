@@ -16,6 +16,9 @@ lt-or-le a b = elim (decLt a b) [ yes h ↦ inl h | no h ↦ inr (omega arith) ]
 pub same-or-not : (a b : ℕ) → (a ≡ b) ⊎ (a ≢ b)
 same-or-not a b = elim (ℕ-discrete a b) [ yes h ↦ inl h | no h ↦ inr h ]
 
+pub true-or-false : (t : Bool) → (t ≡ true) ⊎ (t ≡ false)
+true-or-false t = elim t [ true ↦ inl refl | false ↦ inr refl ]
+
 pub pick-true : {A : Type 0} {t : Bool} (a b : A) → t ≡ true → pick t a b ≡ a
 unfolding pick
 pick-true a b e = rw e
@@ -32,6 +35,10 @@ module _ (s t : Bool) where
   pub and-right : s and t ≡ true → t ≡ true
   unfolding _and_
   and-right = elim s [ true ↦ λ e. e | false ↦ λ e. absurd (false≢true e) ]
+
+  pub and-not : t ≡ false → s and t ≡ false
+  unfolding _and_
+  and-not h = elim s [ true ↦ h | false ↦ refl ]
 
   pub or-cases : s or t ≡ true → (s ≡ true) ⊎ (t ≡ true)
   unfolding _or_

@@ -1,0 +1,64 @@
+-- No counter goes back: the claim of `specs/History`, of every list of calls from an empty table and any memory. An empty table is sound
+-- and has no place, and of any sound start RunsOn says the rest.
+-- Assumes nothing.
+use mathlib.Core.Path.{_≡_, refl, _∙_}
+use mathlib.Core.Bool.{false, false≢true}
+use mathlib.Core.List.{List}
+use Prim.Native.Nat.{ℕ, _<_}
+use native.Mathlib.Omega.{arith}
+use Rattle.words.specs.Choice.{pick, _and_}
+use Rattle.entries.specs.Entry.{entry, zeroEntry}
+use Rattle.entries.specs.declared.entry.Entry.{Entry}
+use Rattle.entries.specs.declared.entry.Decoded.the-variants.{Good}
+use Rattle.entries.proofs.Tells.{false-not-true}
+use Rattle.rules.specs.Calls.{Call}
+use Rattle.rules.specs.Census.{nothing, inEntry, holding, places}
+use Rattle.rules.specs.History.{emptyTable, NoCounterGoesBack}
+use Rattle.rules.specs.State.{N, entryAt}
+use Rattle.rules.proofs.Changes.{weight, held}
+use Rattle.rules.proofs.HistoryFrom.{runs-on}
+use Rattle.rules.proofs.PlaceLaws.{places-are}
+use Rattle.rules.proofs.Sound.{Sound}
+use Rattle.rules.proofs.StateLaws.{entry-inside, entry-of-empty}
+use Rattle.rules.proofs.Sums.{sum-none}
+
+-- ---- the start
+module _ (length : ℕ) (memory : List ℕ) where
+  empty-entry : (f : ℕ) → f < N (emptyTable length memory) → entryAt (emptyTable length memory) f ≡ Good zeroEntry
+  unfolding emptyTable
+  empty-entry f h = entry-of-empty length memory f h
+
+  none-fixed : (f : ℕ) (e : Entry) → entryAt (emptyTable length memory) f ≡ Good e → e .fixed ≡ false
+  unfolding zeroEntry entry
+  none-fixed f e here =
+      let zero-here = empty-entry f (entry-inside (emptyTable length memory) f e here) in
+      let same : e ≡ zeroEntry = cc in
+      rw same refl
+
+  pub empty-sound : Sound (emptyTable length memory)
+  empty-sound =
+      record {
+        decodes = λ f h bad. let zero-here = empty-entry f h in absurd (false≢true (cc));
+        alone = λ f g d e here there fixed k leaf. false-not-true (none-fixed f d here) fixed;
+        unbroken = λ f e guest here fixed broken. false-not-true (none-fixed f e here) fixed;
+      }
+
+  holds-nothing : (guest f : ℕ) → f < N (emptyTable length memory) → holding (emptyTable length memory) guest f ≡ nothing
+  unfolding holding inEntry zeroEntry entry pick _and_
+  holds-nothing guest f h = rw (empty-entry f h) refl
+
+  pub no-place-yet : (guest gpa : ℕ) → places (emptyTable length memory) guest gpa ≡ 0
+  unfolding held weight
+  no-place-yet guest gpa = places-are (emptyTable length memory) guest gpa ∙ sum-none _ _ (λ f h. rw (holds-nothing guest f h) refl)
+
+pub no-counter-goes-back : (length : ℕ) (memory : List ℕ) (calls : List Call) → NoCounterGoesBack (emptyTable length memory) calls
+no-counter-goes-back length memory calls =
+    let runs = runs-on (emptyTable length memory) calls (empty-sound length memory) in
+    record {
+      counted = λ guest gpa g. omega (arith, runs .counted guest gpa g, no-place-yet length memory guest gpa);
+      opened-before = λ past rest read guest gpa index value whole e.
+          omega (arith, runs .opened-before past rest read guest gpa index value whole e, no-place-yet length memory guest gpa);
+      kept = λ past since rest opening read guest gpa frame index value whole o e most.
+          runs .kept past since rest opening read guest gpa frame index value whole o e
+          (omega (arith, no-place-yet length memory guest gpa));
+    }

@@ -1,0 +1,233 @@
+-- PFIX and PUNFIX move no place of any guest; PMERGE and PUNMERGE move one place of one guest, to a frame with the same words.
+-- Assumes nothing.
+use mathlib.Core.Path.{_≡_, refl, sym, _∙_}
+use mathlib.Core.Bool.{true, false}
+use mathlib.Core.Logic.{_≢_, _⊎_, inl, inr, ⊎-elim}
+use Prim.Native.Nat.{ℕ, _≤_, _<_}
+use native.Mathlib.Omega.{arith}
+use Rattle.words.proofs.ChoiceLaws.{same-or-not, true-or-false}
+use Rattle.entries.specs.Entry.{SHARED, MERGEABLE, LEAF, frameOf, isGuest, isOwned, entry, zeroEntry}
+use Rattle.entries.specs.declared.entry.Entry.{Entry}
+use Rattle.entries.specs.declared.entry.Decoded.{Decoded}
+use Rattle.entries.specs.declared.entry.Decoded.the-variants.{Good, Bad}
+use Rattle.entries.proofs.Tells.{guest-range, owned-kinds, false-not-true}
+use Rattle.rules.specs.Census.{holds, nothing, holding}
+use Rattle.rules.specs.History.{neither}
+use Rattle.rules.specs.Leaves.{leafFrame, isLeaf, consulted}
+use Rattle.rules.specs.Merging.{fixing, merging, unmerging, unfixing}
+use Rattle.rules.specs.State.{State, N, M, entryAt, wordAt}
+use Rattle.rules.proofs.Changes.{Change}
+use Rattle.rules.proofs.Consulted.{fixed-consulted, merged-consulted, unmerged-consulted, unfixed-consulted, fixed-owner, fixed-others}
+use Rattle.rules.proofs.Consulted.{merged-here, merged-others, unmerged-here, unmerged-others}
+use Rattle.rules.proofs.Effects.{FixedUp, fixed-page, MergedIn, merged-page, UnmergedTo, unmerged-page, UnfixedTo, unfixed-page}
+use Rattle.rules.proofs.Holdings.{present-there, absent-there, holding-same, unopened, of-another, of-its-own, nobodys, leaf-nothing}
+use Rattle.rules.proofs.Leaves.{consulted-is, unshared-word}
+use Rattle.rules.proofs.Passed.{Fixed, Merged, Unmerged, Unfixed}
+use Rattle.rules.proofs.Sound.{Sound}
+use Rattle.rules.proofs.SoundSteps.{same-good}
+use Rattle.rules.proofs.StateLaws.{sizes, entry-tells, equal-words}
+use Rattle.rules.proofs.Ways.{place-apart, stays, moves}
+
+-- ---- PFIX
+module _ (s : State) (sound : Sound s) (caller hpa leaf : ℕ) (before : Entry) (p : Fixed s caller hpa leaf before) (guest : ℕ) where
+  abbrev fixedNow : State
+  fixedNow = fixing s (frameOf hpa) before leaf
+
+  effect : FixedUp s fixedNow (frameOf hpa) (frameOf leaf) before (entry (before .asid) MERGEABLE true true leaf)
+  effect = fixed-page s caller hpa leaf before p
+
+  -- the page is the owner's place, by its entry before and by its word in the leaf after
+  fixed-here : holding fixedNow guest (frameOf hpa) ≡ holding s guest (frameOf hpa)
+  unfolding entry
+  fixed-here =
+      ⊎-elim
+      (λ own.
+      rw (← own)
+      (present-there fixedNow _ _ _ (effect .put .here) refl _ (fixed-owner s caller hpa leaf before p)
+      ∙ sym (of-its-own s _ _ before (p .here) (p .unfixed) (p .validated) refl)))
+      (λ other.
+      absent-there fixedNow guest _ _ (effect .put .here) refl (fixed-others s caller hpa leaf before p guest (λ same. other (sym same)))
+      ∙ sym (of-another s guest _ before (p .here) (p .unfixed) other))
+      (same-or-not (before .asid) guest)
+
+  pub fix-change : Change s fixedNow neither guest
+  fix-change =
+      stays s fixedNow guest (effect .put .same-size .same-N)
+      (λ f. ⊎-elim (λ here. rw here fixed-here)
+      (λ other. holding-same s fixedNow guest f (effect .put .elsewhere f other)
+      (λ e here fixed. fixed-consulted s sound f e here fixed guest caller hpa leaf before p))
+      (same-or-not f (frameOf hpa)))
+      (λ f at i h. effect .words f i (place-apart s guest at f _ h (leaf-nothing s guest _ (p .is-leaf))))
+
+-- ---- PUNFIX
+module _ (s : State) (sound : Sound s) (caller hpa : ℕ) (before : Entry) (gpa : ℕ) (p : Unfixed s caller hpa before gpa) (guest : ℕ)
+    (range : isGuest guest ≡ true) where
+  abbrev unfixedNow : State
+  unfixedNow = unfixing s (frameOf hpa) before gpa
+
+  loosed : UnfixedTo s unfixedNow (frameOf hpa) (leafFrame before) (entry (before .asid) MERGEABLE true false gpa)
+  loosed = unfixed-page s caller hpa before gpa p
+
+  -- no other guest has a word there
+  unfixed-here : holding unfixedNow guest (frameOf hpa) ≡ holding s guest (frameOf hpa)
+  unfolding entry
+  unfixed-here =
+      ⊎-elim
+      (λ own.
+      rw (← own)
+      (of-its-own unfixedNow _ _ _ (loosed .here) refl refl refl ∙ sym (present-there s _ _ before (p .here) (p .fixed) gpa (p .place))))
+      (λ other.
+      let small = guest-range guest range .1 in
+      of-another unfixedNow guest _ _ (loosed .here) refl other
+      ∙ sym (absent-there s guest _ before (p .here) (p .fixed)
+      (consulted-is s before guest (loosed .is-leaf)
+      ∙ unshared-word s _ (before .asid) 512 guest (p .unshared) (omega arith) (λ same. other (sym same)))))
+      (same-or-not (before .asid) guest)
+
+  pub unfix-change : Change s unfixedNow neither guest
+  unfolding zeroEntry entry
+  unfix-change =
+      stays s unfixedNow guest (loosed .same-size .same-N)
+      (λ f. ⊎-elim (λ here. rw here unfixed-here)
+      (λ other. ⊎-elim
+      (λ at. rw at (unopened unfixedNow guest _ _ (loosed .leaf-here) refl refl ∙ sym (leaf-nothing s guest _ (loosed .is-leaf))))
+      (λ off. holding-same s unfixedNow guest f (loosed .elsewhere f other off)
+      (λ e here fixed. unfixed-consulted s sound f e here fixed guest caller hpa before gpa p other))
+      (same-or-not f (leafFrame before)))
+      (same-or-not f (frameOf hpa)))
+      (λ f at i h. loosed .words f i (place-apart s guest at f _ h (leaf-nothing s guest _ (loosed .is-leaf))))
+
+-- ---- PMERGE
+module _ (s : State) (sound : Sound s) (caller hpa1 hpa2 : ℕ) (one two : Entry) (p : Merged s caller hpa1 hpa2 one two) where
+  abbrev mergedNow : State
+  mergedNow = merging s one (frameOf hpa2) two
+
+  joined : MergedIn s mergedNow (leafFrame one) (frameOf hpa2) two
+  joined = merged-page s caller hpa1 hpa2 one two p
+
+  -- frame 1 is fixed and frame 2 is not
+  merge-apart : frameOf hpa1 ≢ frameOf hpa2
+  merge-apart same = false-not-true (p .unfixed2) (rw (← (same-good s _ _ one two (p .here1) (p .here2) same)) (p .fixed1))
+
+  module _ (guest : ℕ) where
+    freed : holding mergedNow guest (frameOf hpa2) ≡ nothing
+    unfolding zeroEntry entry
+    freed = unopened mergedNow guest _ _ (joined .put .here) refl refl
+
+    -- a frame other than the two
+    merge-beside : (f : ℕ) → f ≢ frameOf hpa1 → f ≢ frameOf hpa2 → holding mergedNow guest f ≡ holding s guest f
+    merge-beside f off away =
+        holding-same s mergedNow guest f (joined .put .elsewhere f away)
+        (λ e here fixed. merged-consulted s sound f e here fixed guest caller hpa1 hpa2 one two p off)
+
+    merge-words : (f gpa i : ℕ) → f ≢ frameOf hpa2 → holding s guest f ≡ holds gpa → wordAt mergedNow f i ≡ wordAt s f i
+    merge-words f gpa i away h = joined .words f i away (place-apart s guest gpa f _ h (leaf-nothing s guest _ (joined .is-leaf)))
+
+    -- another guest's places stay
+    merge-stays : two .asid ≢ guest → Change s mergedNow neither guest
+    merge-stays other =
+        stays s mergedNow guest (joined .put .same-size .same-N)
+        (λ f. ⊎-elim (λ here. rw here (freed ∙ sym was))
+        (λ away. ⊎-elim (λ here. rw here first) (λ off. merge-beside f off away) (same-or-not f (frameOf hpa1)))
+        (same-or-not f (frameOf hpa2)))
+        (λ f gpa i h. merge-words f gpa i (place-apart s guest gpa f _ h was) h)
+      where
+        was : holding s guest (frameOf hpa2) ≡ nothing
+        was = of-another s guest _ two (p .here2) (p .unfixed2) other
+
+        first : holding mergedNow guest (frameOf hpa1) ≡ holding s guest (frameOf hpa1)
+        first =
+            holding-same s mergedNow guest _ (joined .put .elsewhere _ merge-apart)
+            (λ e here fixed. rw (same-good s _ _ e one here (p .here1) refl)
+            (merged-others s caller hpa1 hpa2 one two p guest (λ same. other (sym same))))
+
+  -- the place of frame 2's owner moves from frame 2 to frame 1, whose words are the same
+  merge-moves : Change s mergedNow neither (two .asid)
+  merge-moves =
+      let least = sizes s (p .size) .memory-least in
+      let in1 = p .inside1 in
+      let in2 = p .inside2 in
+      let off = place-apart mergedNow (two .asid) (two .address) (frameOf hpa1) _ to (leaf-nothing mergedNow (two .asid) _ leaf) in
+      moves s mergedNow (two .asid) (joined .put .same-size .same-N) (frameOf hpa2) (frameOf hpa1) (two .address)
+      (of-its-own s _ _ two (p .here2) (p .unfixed2) (p .validated2) refl)
+      (absent-there s _ _ one (p .here1) (p .fixed1) (p .no-place))
+      (freed (two .asid))
+      to
+      (λ f away off. merge-beside (two .asid) f off away)
+      (λ i. joined .words _ i merge-apart off ∙ equal-words s _ _ (p .equal) (omega arith) (omega arith) i)
+      (λ f gpa i away off h. merge-words (two .asid) f gpa i away h)
+    where
+      leaf : isLeaf (entryAt mergedNow (leafFrame one)) ≡ true
+      leaf = rw (joined .put .elsewhere _ (joined .apart)) (joined .is-leaf)
+
+      to : holding mergedNow (two .asid) (frameOf hpa1) ≡ holds (two .address)
+      to =
+          present-there mergedNow _ _ one (joined .put .elsewhere _ merge-apart ∙ p .here1) (p .fixed1) _
+          (merged-here s caller hpa1 hpa2 one two p)
+
+  pub merge-change : (guest : ℕ) → Change s mergedNow neither guest
+  merge-change guest = ⊎-elim (λ own. rw (← own) merge-moves) (merge-stays guest) (same-or-not (two .asid) guest)
+
+-- ---- PUNMERGE
+pub shared-unowned : {kind : ℕ} → kind ≡ SHARED → isOwned kind ≡ true → ⊥
+shared-unowned k o = ⊎-elim (λ h. let z : ⊥ = omega arith in absurd z) (λ h. let z : ⊥ = omega arith in absurd z) (owned-kinds _ o)
+
+module _ (s : State) (sound : Sound s) (caller hpa1 hpa2 asid : ℕ) (one two : Entry) (gpa : ℕ)
+    (p : Unmerged s caller hpa1 hpa2 asid one two gpa) where
+  abbrev unmergedNow : State
+  unmergedNow = unmerging s (frameOf hpa1) one (frameOf hpa2) asid gpa
+
+  parted : UnmergedTo s unmergedNow (frameOf hpa1) (frameOf hpa2) (leafFrame one) asid (entry asid MERGEABLE true false gpa)
+  parted = unmerged-page s caller hpa1 hpa2 asid one two gpa p
+
+  -- frame 1 is MERGEABLE and frame 2 is SHARED
+  unmerge-apart : frameOf hpa1 ≢ frameOf hpa2
+  unmerge-apart same =
+      let q = same-good s _ _ one two (p .here1) (p .here2) same in
+      let k = p .type1 in
+      let l : one .kind ≡ SHARED = rw q (p .type2) in
+      let z : ⊥ = omega arith in absurd z
+
+  module _ (guest : ℕ) where
+    empty : holding s guest (frameOf hpa2) ≡ nothing
+    empty = nobodys s guest _ two (p .here2) (shared-unowned (p .type2))
+
+    unmerge-beside : (f : ℕ) → f ≢ frameOf hpa1 → f ≢ frameOf hpa2 → holding unmergedNow guest f ≡ holding s guest f
+    unmerge-beside f off away =
+        holding-same s unmergedNow guest f (parted .put .elsewhere f away)
+        (λ e here fixed. unmerged-consulted s sound f e here fixed guest caller hpa1 hpa2 asid one two gpa p off)
+
+    unmerge-words : (f at i : ℕ) → f ≢ frameOf hpa2 → holding s guest f ≡ holds at → wordAt unmergedNow f i ≡ wordAt s f i
+    unmerge-words f at i away h = parted .words f i away (place-apart s guest at f _ h (leaf-nothing s guest _ (parted .is-leaf)))
+
+    unmerge-stays : asid ≢ guest → Change s unmergedNow neither guest
+    unfolding entry
+    unmerge-stays other =
+        stays s unmergedNow guest (parted .put .same-size .same-N)
+        (λ f. ⊎-elim (λ here. rw here (of-another unmergedNow guest _ _ (parted .put .here) refl other ∙ sym empty))
+        (λ away. ⊎-elim (λ here. rw here first) (λ off. unmerge-beside f off away) (same-or-not f (frameOf hpa1)))
+        (same-or-not f (frameOf hpa2)))
+        (λ f at i h. unmerge-words f at i (place-apart s guest at f _ h empty) h)
+      where
+        first : holding unmergedNow guest (frameOf hpa1) ≡ holding s guest (frameOf hpa1)
+        first =
+            holding-same s unmergedNow guest _ (parted .put .elsewhere _ unmerge-apart)
+            (λ e here fixed. rw (same-good s _ _ e one here (p .here1) refl)
+            (unmerged-others s caller hpa1 hpa2 asid one two gpa p guest (λ same. other (sym same))))
+
+  -- the guest's place moves from frame 1 to its copy in frame 2
+  unmerge-moves : Change s unmergedNow neither asid
+  unfolding entry
+  unmerge-moves =
+      moves s unmergedNow asid (parted .put .same-size .same-N) (frameOf hpa1) (frameOf hpa2) gpa
+      (present-there s _ _ one (p .here1) (p .fixed1) gpa (p .place))
+      (empty asid)
+      (absent-there unmergedNow _ _ one (parted .put .elsewhere _ unmerge-apart ∙ p .here1) (p .fixed1)
+      (unmerged-here s caller hpa1 hpa2 asid one two gpa p))
+      (of-its-own unmergedNow _ _ _ (parted .put .here) refl refl refl)
+      (unmerge-beside asid)
+      (parted .copied)
+      (λ f at i off away h. unmerge-words asid f at i away h)
+
+  pub unmerge-change : (guest : ℕ) → Change s unmergedNow neither guest
+  unmerge-change guest = ⊎-elim (λ own. rw (← own) unmerge-moves) (unmerge-stays guest) (same-or-not asid guest)

@@ -1,0 +1,126 @@
+-- What any call does to the places of a guest, from a sound state: by the call's own case, and a refused call does nothing.
+-- Assumes nothing.
+use mathlib.Core.Path.{_≡_, refl, sym, _∙_}
+use mathlib.Core.Bool.{Bool, true, false, false≢true}
+use Prim.Native.Nat.{ℕ}
+use Rattle.words.specs.Choice.{pick}
+use Rattle.words.proofs.ChoiceLaws.{pick-true, pick-false}
+use Rattle.entries.specs.Entry.{frameOf, isGuest, isOwned}
+use Rattle.rules.specs.Answers.{Told, refused, done, none, closed, opened, already, word, count, Outcome}
+use Rattle.rules.specs.Calls.{Call, RMPUPDATE, PVALIDATE, PFIX, PMERGE, PUNMERGE, PUNFIX, READ, WRITE, CENSUS, step}
+use Rattle.rules.specs.Census.{census}
+use Rattle.rules.specs.History.{Event, opens, closes, reads, writes, neither, byAnswer, eventOf}
+use Rattle.rules.specs.State.{State}
+use Rattle.rules.proofs.AccessChanges.{ReadPlace, read-of-place, read-change, write-change}
+use Rattle.rules.proofs.AssignmentChanges.{update-change, validate-change}
+use Rattle.rules.proofs.Changes.{Change}
+use Rattle.rules.proofs.MergingChanges.{fix-change, merge-change, unmerge-change, unfix-change}
+use Rattle.rules.proofs.Passed.{rmpupdate-cases, pvalidate-cases, pfix-cases, pmerge-cases, punmerge-cases, punfix-cases, read-cases}
+use Rattle.rules.proofs.Passed.{write-cases}
+use Rattle.rules.proofs.Sound.{Sound}
+use Rattle.rules.proofs.Steps.{census-keeps}
+use Rattle.rules.proofs.Ways.{unchanged}
+
+-- a refused call is no event
+pick-same : {A : Type 0} (t : Bool) (a : A) → pick t a a ≡ a
+pick-same true a = pick-true _ _ refl
+pick-same false a = pick-false _ _ refl
+
+refused-event : (c : Call) (n : ℕ) → eventOf c (refused n) ≡ neither
+unfolding eventOf byAnswer
+refused-event (RMPUPDATE caller hpa gpa asid kind) n = refl
+refused-event (PVALIDATE caller gpa hpa kind) n = refl
+refused-event (PFIX caller hpa leaf) n = refl
+refused-event (PMERGE caller hpa1 hpa2) n = refl
+refused-event (PUNMERGE caller hpa1 hpa2 asid) n = refl
+refused-event (PUNFIX caller hpa) n = refl
+refused-event (READ caller gpa hpa gtype ntype index) n = pick-same _ _
+refused-event (WRITE caller gpa hpa gtype ntype index value) n = pick-same _ _
+refused-event (CENSUS asid) n = refl
+
+module _ (s : State) (guest : ℕ) where
+  abbrev Changed : Call → Outcome → Type 0
+  Changed c o = Change s (o .after) (eventOf c (o .told)) guest
+
+  refusal : (c : Call) (n : ℕ) → Change s s (eventOf c (refused n)) guest
+  refusal c n = rw (refused-event c n) (unchanged s guest)
+
+  pub step-change : (c : Call) → Sound s → isGuest guest ≡ true → Changed c (step s c)
+  unfolding step eventOf
+  step-change (RMPUPDATE caller hpa gpa asid kind) sound range =
+      rmpupdate-cases (Changed (RMPUPDATE caller hpa gpa asid kind)) s (λ n why. refusal (RMPUPDATE caller hpa gpa asid kind) n)
+      caller hpa gpa asid kind (λ old p. update-change s sound caller hpa gpa asid kind old p guest)
+  step-change (PVALIDATE caller gpa hpa kind) sound range =
+      pvalidate-cases (Changed (PVALIDATE caller gpa hpa kind)) s (λ n why. refusal (PVALIDATE caller gpa hpa kind) n)
+      caller gpa hpa kind (λ old p. validate-change s sound caller gpa hpa kind old p guest)
+  step-change (PFIX caller hpa leaf) sound range =
+      pfix-cases (Changed (PFIX caller hpa leaf)) s (λ n why. unchanged s guest)
+      caller hpa leaf (λ old p. fix-change s sound caller hpa leaf old p guest)
+  step-change (PMERGE caller hpa1 hpa2) sound range =
+      pmerge-cases (Changed (PMERGE caller hpa1 hpa2)) s (λ n why. unchanged s guest)
+      caller hpa1 hpa2 (λ one two p. merge-change s sound caller hpa1 hpa2 one two p guest)
+  step-change (PUNMERGE caller hpa1 hpa2 asid) sound range =
+      punmerge-cases (Changed (PUNMERGE caller hpa1 hpa2 asid)) s (λ n why. unchanged s guest)
+      caller hpa1 hpa2 asid (λ one two gpa p. unmerge-change s sound caller hpa1 hpa2 asid one two gpa p guest)
+  step-change (PUNFIX caller hpa) sound range =
+      punfix-cases (Changed (PUNFIX caller hpa)) s (λ n why. unchanged s guest)
+      caller hpa (λ old gpa p. unfix-change s sound caller hpa old gpa p guest range)
+  step-change (READ caller gpa hpa gtype ntype index) sound range =
+      read-cases (Changed (READ caller gpa hpa gtype ntype index)) s (λ n why. refusal (READ caller gpa hpa gtype ntype index) n)
+      caller gpa hpa gtype ntype index (λ p. read-change s guest caller gpa hpa gtype ntype index _)
+  step-change (WRITE caller gpa hpa gtype ntype index value) sound range =
+      write-cases (Changed (WRITE caller gpa hpa gtype ntype index value)) s
+      (λ n why. refusal (WRITE caller gpa hpa gtype ntype index value) n)
+      caller gpa hpa gtype ntype index value (λ p. write-change s sound caller gpa hpa gtype ntype index value p guest)
+  step-change (CENSUS asid) sound range = rw (census-keeps s asid) (unchanged s guest)
+
+-- ---- a read: no other call is one
+unfoldable isRead : Event → Bool
+isRead (opens guest gpa frame) = false
+isRead (closes guest gpa) = false
+isRead (reads guest gpa index value) = true
+isRead (writes guest gpa index value) = false
+isRead neither = false
+
+no-read : {A : Type 0} (e : Event) (guest gpa index value : ℕ) → isRead e ≡ false → e ≡ reads guest gpa index value → A
+unfolding isRead
+no-read e guest gpa index value h same = absurd (false≢true (sym (rw same at h)))
+
+answered-else :
+    (t : Told) (ifDone ifOpened : Event) (ifClosed : ℕ → ℕ → Event) → isRead ifDone ≡ false → isRead ifOpened ≡ false
+    → ((g a : ℕ) → isRead (ifClosed g a) ≡ false) → isRead (byAnswer t ifDone ifClosed ifOpened (λ value. neither)) ≡ false
+unfolding byAnswer isRead
+answered-else (refused number) d o c hd ho hc = refl
+answered-else done d o c hd ho hc = hd
+answered-else none d o c hd ho hc = refl
+answered-else (closed guest gpa) d o c hd ho hc = hc guest gpa
+answered-else opened d o c hd ho hc = ho
+answered-else already d o c hd ho hc = refl
+answered-else (word value) d o c hd ho hc = refl
+answered-else (count number) d o c hd ho hc = refl
+
+chosen-else : (t : Bool) (e : Event) → isRead e ≡ false → isRead (pick t e neither) ≡ false
+unfolding pick isRead
+chosen-else true e h = h
+chosen-else false e h = refl
+
+pub read-place :
+    (s : State) (c : Call) (guest gpa index value : ℕ) → eventOf c (step s c .told) ≡ reads guest gpa index value
+    → ReadPlace s guest gpa index value
+unfolding eventOf step isRead
+read-place s (RMPUPDATE caller hpa at asid kind) guest gpa index value =
+    no-read _ guest gpa index value (answered-else _ _ _ _ refl refl (λ g a. refl))
+read-place s (PVALIDATE caller at hpa kind) guest gpa index value =
+    no-read _ guest gpa index value (answered-else _ _ _ _ refl refl (λ g a. refl))
+read-place s (PFIX caller hpa leaf) guest gpa index value = no-read _ guest gpa index value refl
+read-place s (PMERGE caller hpa1 hpa2) guest gpa index value = no-read _ guest gpa index value refl
+read-place s (PUNMERGE caller hpa1 hpa2 asid) guest gpa index value = no-read _ guest gpa index value refl
+read-place s (PUNFIX caller hpa) guest gpa index value = no-read _ guest gpa index value refl
+read-place s (READ caller at hpa gtype ntype i) guest gpa index value =
+    read-cases (λ o. eventOf (READ caller at hpa gtype ntype i) (o .told) ≡ reads guest gpa index value → ReadPlace s guest gpa index value) s
+    (λ n why. no-read _ guest gpa index value (rw (refused-event (READ caller at hpa gtype ntype i) n)))
+    caller at hpa gtype ntype i
+    (λ p. read-of-place s caller at hpa gtype ntype i p guest gpa index value)
+read-place s (WRITE caller at hpa gtype ntype i w) guest gpa index value =
+    no-read _ guest gpa index value (chosen-else _ _ (answered-else _ _ _ _ refl refl (λ g a. refl)))
+read-place s (CENSUS asid) guest gpa index value = no-read _ guest gpa index value refl

@@ -1,0 +1,110 @@
+-- The ways in which a call changes the places of one guest: none moves, one moves from a frame to another, one frame is another thing to
+-- the guest. Each is a change of one or two terms of a sum over frames; whence each place comes is told frame by frame.
+-- Assumes nothing.
+use mathlib.Core.Path.{_≡_, refl, sym, _∙_}
+use mathlib.Core.Bool.{Bool, true, false, false≢true}
+use mathlib.Core.Logic.{_≢_, _⊎_, inl, inr, ⊎-elim}
+use Prim.Native.Nat.{ℕ, _+_, _<_}
+use native.Mathlib.Omega.{arith}
+use lib.Dec.{eqb}
+use borrow.Author.Tests.{eq-eqb, ne-eqb}
+use Rattle.words.specs.Choice.{pick, _and_}
+use Rattle.words.proofs.ChoiceLaws.{same-or-not}
+use Rattle.entries.specs.Entry.{bit}
+use Rattle.entries.specs.declared.entry.Entry.{Entry}
+use Rattle.entries.specs.declared.entry.Decoded.the-variants.{Good}
+use Rattle.rules.specs.Census.{Holding, holds, nothing, holding}
+use Rattle.rules.specs.History.{Event, reads, neither, written}
+use Rattle.rules.specs.State.{State, N, entryAt, wordAt}
+use Rattle.rules.proofs.Changes.{weight, held, opening, closing, Whence, old, Change}
+use Rattle.rules.proofs.Holdings.{of-another, of-its-own}
+use Rattle.rules.proofs.PlaceLaws.{holding-inside}
+use Rattle.rules.proofs.Sums.{sum, sum-same, sum-one, sum-two}
+
+-- a frame that is nothing to the guest is none of its places, and weighs nothing; a frame is its place at one address
+pub place-apart : (s : State) (guest gpa f p : ℕ) → holding s guest f ≡ holds gpa → holding s guest p ≡ nothing → f ≢ p
+place-apart s guest gpa f p h k same = absurd (false≢true (cc))
+
+pub one-address : (s : State) (guest f g at here : ℕ) → holding s guest f ≡ holds at → holding s guest g ≡ holds here → f ≡ g → at ≡ here
+one-address s guest f g at here h k same = cc
+
+pub nothing-weighs : (among : ℕ → Bool) {h : Holding} → h ≡ nothing → weight among h ≡ 0
+unfolding weight
+nothing-weighs among e = rw e
+
+-- what a page that is not fixed and is VALIDATED weighs
+pub page-weight :
+    (s : State) (guest f : ℕ) (e : Entry) → entryAt s f ≡ Good e → e .fixed ≡ false → e .validated ≡ true → (among : ℕ → Bool)
+    → weight among (holding s guest f) ≡ bit (eqb (e .asid) guest and among (e .address))
+unfolding weight _and_ bit pick
+page-weight s guest f e here unfixed v among =
+    ⊎-elim (λ own. rw (of-its-own s guest f e here unfixed v own, eq-eqb _ _ own))
+    (λ other. rw (of-another s guest f e here unfixed other, ne-eqb _ _ other))
+    (same-or-not (e .asid) guest)
+
+module _ (s u : State) (guest : ℕ) (size : N u ≡ N s) where
+  pub held-same :
+      (among : ℕ → Bool) → ((f : ℕ) → holding u guest f ≡ holding s guest f) → held among u guest ≡ held among s guest
+  unfolding held
+  held-same among same = rw size (sum-same _ _ (N s) (λ f h. rw (same f)))
+
+  -- one frame is another thing to the guest
+  pub held-one :
+      (among : ℕ → Bool) (p : ℕ) → p < N s → ((f : ℕ) → f ≢ p → holding u guest f ≡ holding s guest f)
+      → held among u guest + weight among (holding s guest p) ≡ held among s guest + weight among (holding u guest p)
+  unfolding held
+  held-one among p inside same = rw size (sum-one _ _ p (N s) inside (λ f other. rw (same f other)))
+
+  -- none moves
+  pub stays :
+      ((f : ℕ) → holding u guest f ≡ holding s guest f)
+      → ((f gpa i : ℕ) → holding s guest f ≡ holds gpa → wordAt u f i ≡ wordAt s f i)
+      → Change s u neither guest
+  unfolding opening closing written
+  stays same words =
+      record {
+        balance = λ among. rw (held-same among same);
+        whence = λ gpa f most h. let was = sym (same f) ∙ h in old f was (λ i. words f gpa i was);
+      }
+
+  -- one moves, from p to q
+  module _ (p q at : ℕ) (from : holding s guest p ≡ holds at) (free : holding s guest q ≡ nothing)
+      (left : holding u guest p ≡ nothing) (to : holding u guest q ≡ holds at)
+      (same : (f : ℕ) → f ≢ p → f ≢ q → holding u guest f ≡ holding s guest f) where
+    weighs : (among : ℕ → Bool) {h k : Holding} → h ≡ holds at → k ≡ nothing → weight among h + weight among k ≡ bit (among at)
+    unfolding weight
+    weighs among a b = rw (a, b) (omega arith)
+
+    held-moved : (among : ℕ → Bool) → held among u guest ≡ held among s guest
+    unfolding held
+    held-moved among =
+        let inside = holding-inside s guest at p from in
+        let too : q < N s = rw (← size) (holding-inside u guest at q to) in
+        let two = sum-two (λ f. weight among (holding s guest f)) (λ f. weight among (holding u guest f)) p q (N s) inside too
+        (place-apart s guest at p q from free) (λ f off away. rw (same f off away)) in
+        rw size (omega (arith, weighs among from free, weighs among to left))
+
+    pub moves :
+        ((i : ℕ) → wordAt u q i ≡ wordAt s p i)
+        → ((f gpa i : ℕ) → f ≢ p → f ≢ q → holding s guest f ≡ holds gpa → wordAt u f i ≡ wordAt s f i)
+        → Change s u neither guest
+    unfolding opening closing written
+    moves words others = record { balance = λ among. rw (held-moved among); whence = λ gpa f most h. whence gpa f h }
+      where
+        whence : (gpa f : ℕ) → holding u guest f ≡ holds gpa → Whence s u neither guest gpa f
+        whence gpa f h =
+            ⊎-elim
+            (λ here. old p (cc) (λ i. rw here (words i)))
+            (λ away.
+            let off = place-apart u guest gpa f p h left in
+            let was = sym (same f off away) ∙ h in
+            old f was (λ i. others f gpa i off away was))
+            (same-or-not f q)
+
+-- nothing is done
+pub unchanged : (s : State) (guest : ℕ) → Change s s neither guest
+unchanged s guest = stays s s guest refl (λ f. refl) (λ f gpa i h. refl)
+
+pub only-read : (s : State) (guest caller gpa index value : ℕ) → Change s s (reads caller gpa index value) guest
+unfolding opening closing written
+only-read s guest caller gpa index value = record { balance = λ among. refl; whence = λ at f most h. old f h (λ i. refl) }
