@@ -11,9 +11,8 @@ use Rattle.entries.specs.Entry.{entry, zeroEntry}
 use Rattle.entries.specs.declared.entry.Entry.{Entry}
 use Rattle.entries.specs.declared.entry.Decoded.the-variants.{Good}
 use Rattle.entries.proofs.Tells.{false-not-true}
-use Rattle.rules.specs.Calls.{Call}
 use Rattle.rules.specs.Census.{nothing, inEntry, holding, places}
-use Rattle.rules.specs.History.{emptyTable, NoCounterGoesBack}
+use Rattle.rules.specs.History.{emptyTable, Demand3}
 use Rattle.rules.specs.State.{N, entryAt}
 use Rattle.rules.proofs.Changes.{weight, held}
 use Rattle.rules.proofs.HistoryFrom.{runs-on}
@@ -51,7 +50,7 @@ module _ (length : ℕ) (memory : List ℕ) where
   unfolding held weight
   no-place-yet guest gpa = places-are (emptyTable length memory) guest gpa ∙ sum-none _ _ (λ f h. rw (holds-nothing guest f h) refl)
 
-pub no-counter-goes-back : (length : ℕ) (memory : List ℕ) (calls : List Call) → NoCounterGoesBack (emptyTable length memory) calls
+pub no-counter-goes-back : Demand3
 no-counter-goes-back length memory calls =
     let runs = runs-on (emptyTable length memory) calls (empty-sound length memory) in
     record {

@@ -8,7 +8,6 @@ pub mod Changes
 pub mod Computed
 pub mod Consulted
 pub mod Effects
-pub mod Examples
 pub mod History
 pub mod HistoryFrom
 pub mod HistoryLists
@@ -26,3 +25,4 @@ pub mod StepChanges
 pub mod Steps
 pub mod Sums
 pub mod Ways
+pub mod Worked

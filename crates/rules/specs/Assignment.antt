@@ -31,20 +31,20 @@ rmpupdate s caller hpa gpa asid kind =
 
 -- "VALIDATED set"
 unfoldable pub validating : State → ℕ → Entry → State
-validating s frame old = withEntry s frame (toValidated old)
+validating s frame page = withEntry s frame (toValidated page)
 
 -- "*opened*, or *already* if it was set"
 unfoldable pub validateAnswer : Entry → Told
-validateAnswer old = pick (old .validated) already opened
+validateAnswer page = pick (page .validated) already opened
 
 -- PVALIDATE: "3 if the caller is 0. Then 5, 6, 7, 10, 8."
 unfoldable pub pvalidate : State → ℕ → ℕ → ℕ → ℕ → Outcome
 pvalidate s caller gpa hpa kind =
     settle s
     (begins s (validateArguments caller gpa hpa kind) (not (isHost caller)) (covers s hpa)
-    (entered (entryAt s (frameOf hpa)) λ old.
-    unless (eqb (old .kind) kind) TYPE
-    (unless (eqb (old .asid) caller) OWNER
-    (when (old .fixed) FIXED
-    (unless (eqb (old .address) gpa) ADDRESS
-    (grant (validateAnswer old) (validating s (frameOf hpa) old)))))))
+    (entered (entryAt s (frameOf hpa)) λ page.
+    unless (eqb (page .kind) kind) TYPE
+    (unless (eqb (page .asid) caller) OWNER
+    (when (page .fixed) FIXED
+    (unless (eqb (page .address) gpa) ADDRESS
+    (grant (validateAnswer page) (validating s (frameOf hpa) page)))))))

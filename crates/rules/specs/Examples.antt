@@ -1,5 +1,5 @@
 -- Worked examples of the nine calls, each with the whole table and memory before and after it, and of each of the seventeen refusals;
--- and of places. They are worked by hand from 01; that the definitions give them is shown in proofs/Examples.
+-- and of places. They are worked by hand from 01; that the definitions give them is shown in proofs/Worked.
 use mathlib.Core.List.{List, [], _∷_, _++_}
 use Prim.Native.Nat.{ℕ, _-_}
 use lib.ListN.{replicate}

@@ -125,3 +125,7 @@ pub record NoCounterGoesBack (s : State) (calls : List Call) : Type 0 where
       → event opening ≡ opens guest gpa frame → event read ≡ reads guest gpa index value
       → openings (past ++ (opening ∷ since)) guest gpa ≤ 1
       → value ≡ lastWrite since guest gpa index (wordAt (opening .got) frame index)
+
+-- demand 3: "for every list of the nine calls of document 01, refused ones among them, from an empty table and any memory"
+abbrev pub Demand3 : Type 0
+Demand3 = (length : ℕ) (memory : List ℕ) (calls : List Call) → NoCounterGoesBack (emptyTable length memory) calls
