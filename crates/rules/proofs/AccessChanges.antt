@@ -3,24 +3,22 @@
 -- Assumes nothing.
 use mathlib.Core.Path.{_≡_, refl, sym, _∙_}
 use mathlib.Core.Bool.{Bool, true, false, false≢true}
-use mathlib.Core.Logic.{_≢_, _⊎_, inl, inr, ⊎-elim}
-use Prim.Native.Nat.{ℕ, _≤_, _<_}
+use mathlib.Core.Logic.{_≢_, ⊎-elim}
+use Prim.Native.Nat.{ℕ, _≤_}
 use native.Mathlib.Omega.{arith}
 use lib.Dec.{eqb}
 use borrow.Author.Tests.{eq-eqb, ne-eqb}
 use Rattle.words.specs.Choice.{pick, _and_}
 use Rattle.words.proofs.ChoiceLaws.{same-or-not, true-or-false, pick-true, pick-false, and-not}
 use Rattle.entries.specs.Entry.{SHARED, frameOf, isGuest, isOwned}
-use Rattle.entries.specs.declared.entry.Entry.{Entry}
-use Rattle.entries.specs.declared.entry.Decoded.the-variants.{Good}
 use Rattle.entries.proofs.Tells.{in-range, false-not-true}
 use Rattle.rules.specs.Answers.{done, word}
 use Rattle.rules.specs.Calls.{READ, WRITE}
 use Rattle.rules.specs.Census.{holds, nothing, holding, places}
-use Rattle.rules.specs.History.{Event, reads, writes, neither, byAnswer, eventOf, written}
-use Rattle.rules.specs.State.{State, N, M, entryAt, wordAt, withWord}
+use Rattle.rules.specs.History.{reads, writes, neither, byAnswer, eventOf, written}
+use Rattle.rules.specs.State.{State, wordAt, withWord}
 use Rattle.rules.proofs.ArgumentLaws.{access-tells, guest-access}
-use Rattle.rules.proofs.Changes.{opening, closing, Whence, old, Change}
+use Rattle.rules.proofs.Changes.{opening, closing, old, Change}
 use Rattle.rules.proofs.Consulted.{written-consulted}
 use Rattle.rules.proofs.Holdings.{present-there, holding-same, of-another, of-its-own, nobodys}
 use Rattle.rules.proofs.MergingChanges.{shared-unowned}
@@ -123,7 +121,8 @@ module _ (s : State) (sound : Sound s) (caller gpa hpa gtype ntype index value :
       (λ e here fixed. written-consulted s sound f e here fixed caller gpa (frameOf hpa) gtype index value guest (p .way))
 
   -- a SHARED access is to a frame that is no place
-  shared-off : {caller gpa : ℕ} → Way s true caller gpa (frameOf hpa) gtype → isOwned gtype ≡ false → (f at : ℕ) → holding s guest f ≡ holds at → f ≢ frameOf hpa
+  shared-off :
+      Way s true caller gpa (frameOf hpa) gtype → isOwned gtype ≡ false → (f at : ℕ) → holding s guest f ≡ holds at → f ≢ frameOf hpa
   shared-off (above high t) o f at h same = let l = holding-inside s guest at f h in let z : ⊥ = omega arith in absurd z
   shared-off (shared e l here k t) o f at h same = place-apart s guest at f _ h (nobodys s guest _ e here (shared-unowned k)) same
   shared-off (own e l here k t u a w v) o f at h same =
@@ -176,7 +175,8 @@ module _ (s : State) (sound : Sound s) (caller gpa hpa gtype ntype index value :
             ⊎-elim
             (λ which. rw (here, ← which) (word-after-word s _ index value (p .inside) small)
             ∙ sym (written-there caller gpa index value guest at i _ who where-at which))
-            (λ beside. word-beside s _ index value f i (λ same. beside (sym same)) ∙ sym (written-beside caller gpa index value guest at i _ beside))
+            (λ beside. word-beside s _ index value f i (λ same. beside (sym same))
+            ∙ sym (written-beside caller gpa index value guest at i _ beside))
             (same-or-not index i)
 
     private-change : Change s writtenNow (writes caller gpa index value) guest

@@ -8,7 +8,7 @@ use Prim.Native.Nat.{ℕ, zero, suc, _≤_, _<_}
 use native.Mathlib.Omega.{arith}
 use lib.Dec.{eqb}
 use borrow.Author.Tests.{leb-true, eqb-true, eqb-false, not-true}
-use Rattle.words.specs.Choice.{_and_, _or_}
+use Rattle.words.specs.Choice.{_or_}
 use Rattle.words.proofs.ChoiceLaws.{and-left, and-right, or-cases}
 use Rattle.entries.specs.Entry.{SHARED, MERGEABLE, LEAF, isAddress, isParty, isGuest, isOwned, isUnowned, entry, wellFormed}
 use Rattle.entries.proofs.Tells.{unowned-fits, page-fits, false-not-true}

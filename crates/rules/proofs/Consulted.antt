@@ -1,15 +1,13 @@
 -- The word consulted for a fixed page after each accepted call, in a sound state: it stays, because leaves are LEAF frames that no two
 -- pages share and that no call but PFIX, PMERGE, PUNMERGE and PUNFIX writes to, except for the one word that those calls are about.
 -- Assumes nothing.
-use mathlib.Core.Path.{_≡_, refl, sym, _∙_}
-use mathlib.Core.Bool.{true, false, false≢true}
-use mathlib.Core.Logic.{_≢_, _⊎_, inl, inr, ⊎-elim}
-use Prim.Native.Nat.{ℕ, _<_, _≤_}
+use mathlib.Core.Path.{_≡_, sym, _∙_}
+use mathlib.Core.Bool.{true, false≢true}
+use mathlib.Core.Logic.{_≢_}
+use Prim.Native.Nat.{ℕ}
 use native.Mathlib.Omega.{arith}
-use lib.Dec.{eqb}
 use borrow.Author.Tests.{eqb-false}
 use Rattle.entries.specs.Entry.{SHARED, MERGEABLE, LEAF, frameOf, isOwned, entry}
-use Rattle.entries.specs.Leaf.{leafWord}
 use Rattle.entries.specs.declared.entry.Entry.{Entry}
 use Rattle.entries.specs.declared.entry.Decoded.the-variants.{Good}
 use Rattle.entries.specs.declared.leaf.LeafWord.the-variants.{Absent, Present}
@@ -17,10 +15,11 @@ use Rattle.entries.proofs.LeafLaws.{leaf-present, leaf-absent}
 use Rattle.rules.specs.Assignment.{assigning, validating}
 use Rattle.rules.specs.Leaves.{leafFrame, isLeaf, consulted}
 use Rattle.rules.specs.Merging.{fixing, merging, unmerging, unfixing}
-use Rattle.rules.specs.State.{State, N, entryAt, wordAt, withWord}
+use Rattle.rules.specs.State.{State, entryAt, withWord}
 use Rattle.rules.proofs.ArgumentLaws.{validate-tells, two-addresses}
-use Rattle.rules.proofs.Effects.{Put, assigned, validated-page, fixed-page, merged-page, unmerged-page, unfixed-page}
-use Rattle.rules.proofs.Leaves.{consulted-same, consulted-is, is-a-leaf, leaf-apart, not-a-leaf, owned-no-leaf, leaf-inside, unused-leaf}
+use Rattle.rules.proofs.Effects.{assigning-does, validating-does, fixing-does, merging-does, unmerging-does, unfixing-does}
+use Rattle.rules.proofs.Leaves.{consulted-same, consulted-is, is-a-leaf, leaf-apart, not-a-leaf, owned-no-leaf, leaf-inside}
+use Rattle.rules.proofs.Leaves.{unused-leaf}
 use Rattle.rules.proofs.Passed.{Updated, Validated, Fixed, Merged, Unmerged, Unfixed, Way, above, shared, own, merged}
 use Rattle.rules.proofs.Sound.{Sound}
 use Rattle.rules.proofs.StateLaws.{entry-tells, entry-after-word, word-elsewhere}
@@ -39,7 +38,7 @@ module _ (s : State) (sound : Sound s) (g : ℕ) (d : Entry) (page : entryAt s g
         (caller hpa gpa asid kind : ℕ) (old : Entry) → Updated s caller hpa gpa asid kind old
         → consulted (assigning s (frameOf hpa) old gpa asid kind) d guest ≡ consulted s d guest
     assigned-consulted caller hpa gpa asid kind old p =
-        let e = assigned s caller hpa gpa asid kind old p in
+        let e = assigning-does s caller hpa gpa asid kind old p in
         let off = leaf-off _ old (p .here) (eqb-false _ _ (p .no-leaf)) in
         consulted-same s _ d guest (e .put .elsewhere _ off) (e .words _ _ off)
 
@@ -47,7 +46,7 @@ module _ (s : State) (sound : Sound s) (g : ℕ) (d : Entry) (page : entryAt s g
         (caller gpa hpa kind : ℕ) (old : Entry) → Validated s caller gpa hpa kind old
         → consulted (validating s (frameOf hpa) old) d guest ≡ consulted s d guest
     validated-consulted caller gpa hpa kind old p =
-        let e = validated-page s caller gpa hpa kind old p in
+        let e = validating-does s caller gpa hpa kind old p in
         let owned : isOwned (old .kind) ≡ true = rw (p .type) (validate-tells caller gpa hpa kind (p .arguments) .owned) in
         let off = leaf-off _ old (p .here) (owned-no-leaf _ owned) in
         consulted-same s _ d guest (e .put .elsewhere _ off) (e .words _ _)
@@ -56,7 +55,7 @@ module _ (s : State) (sound : Sound s) (g : ℕ) (d : Entry) (page : entryAt s g
         (caller hpa leaf : ℕ) (old : Entry) → Fixed s caller hpa leaf old
         → consulted (fixing s (frameOf hpa) old leaf) d guest ≡ consulted s d guest
     fixed-consulted caller hpa leaf old p =
-        let e = fixed-page s caller hpa leaf old p in
+        let e = fixing-does s caller hpa leaf old p in
         let off = leaf-off _ old (p .here) (not-a-leaf MERGEABLE (p .type) (omega arith)) in
         let free = unused-leaf s leaf g d (p .unused) (two-addresses caller hpa leaf (p .arguments) .1) page fixed in
         consulted-same s _ d guest (e .put .elsewhere _ off) (e .words _ _ free)
@@ -65,7 +64,7 @@ module _ (s : State) (sound : Sound s) (g : ℕ) (d : Entry) (page : entryAt s g
         (caller hpa1 hpa2 : ℕ) (one two : Entry) → Merged s caller hpa1 hpa2 one two → g ≢ frameOf hpa1
         → consulted (merging s one (frameOf hpa2) two) d guest ≡ consulted s d guest
     merged-consulted caller hpa1 hpa2 one two p apart =
-        let e = merged-page s caller hpa1 hpa2 one two p in
+        let e = merging-does s caller hpa1 hpa2 one two p in
         let off = leaf-off _ two (p .here2) (not-a-leaf MERGEABLE (p .type2) (omega arith)) in
         consulted-same s _ d guest (e .put .elsewhere _ off) (e .words _ _ off (leaf-own _ one (p .here1) (p .fixed1) apart))
 
@@ -73,7 +72,7 @@ module _ (s : State) (sound : Sound s) (g : ℕ) (d : Entry) (page : entryAt s g
         (caller hpa1 hpa2 asid : ℕ) (one two : Entry) (gpa : ℕ) → Unmerged s caller hpa1 hpa2 asid one two gpa → g ≢ frameOf hpa1
         → consulted (unmerging s (frameOf hpa1) one (frameOf hpa2) asid gpa) d guest ≡ consulted s d guest
     unmerged-consulted caller hpa1 hpa2 asid one two gpa p apart =
-        let e = unmerged-page s caller hpa1 hpa2 asid one two gpa p in
+        let e = unmerging-does s caller hpa1 hpa2 asid one two gpa p in
         let off = leaf-off _ two (p .here2) (not-a-leaf SHARED (p .type2) (omega arith)) in
         consulted-same s _ d guest (e .put .elsewhere _ off) (e .words _ _ off (leaf-own _ one (p .here1) (p .fixed1) apart))
 
@@ -81,7 +80,7 @@ module _ (s : State) (sound : Sound s) (g : ℕ) (d : Entry) (page : entryAt s g
         (caller hpa : ℕ) (old : Entry) (gpa : ℕ) → Unfixed s caller hpa old gpa → g ≢ frameOf hpa
         → consulted (unfixing s (frameOf hpa) old gpa) d guest ≡ consulted s d guest
     unfixed-consulted caller hpa old gpa p apart =
-        let e = unfixed-page s caller hpa old gpa p in
+        let e = unfixing-does s caller hpa old gpa p in
         let off = leaf-off _ old (p .here) (not-a-leaf MERGEABLE (p .type) (omega arith)) in
         let own = leaf-own _ old (p .here) (p .fixed) apart in
         consulted-same s _ d guest (e .elsewhere _ off own) (e .words _ _ own)
@@ -110,44 +109,44 @@ module _ (s : State) (caller hpa leaf : ℕ) (old : Entry) (p : Fixed s caller h
   new-leaf : isLeaf (entryAt (fixing s (frameOf hpa) old leaf) (leafFrame FixedEntry)) ≡ true
   unfolding leafFrame entry
   new-leaf =
-      let e = fixed-page s caller hpa leaf old p in
+      let e = fixing-does s caller hpa leaf old p in
       let off = leaf-apart s _ _ old (p .is-leaf) (p .here) (not-a-leaf MERGEABLE (p .type) (omega arith)) in
       rw (e .put .elsewhere _ off) (p .is-leaf)
 
   pub fixed-owner : consulted (fixing s (frameOf hpa) old leaf) FixedEntry (old .asid) ≡ Present (old .address)
   unfolding leafFrame entry
   fixed-owner =
-      let e = fixed-page s caller hpa leaf old p in
+      let e = fixing-does s caller hpa leaf old p in
       consulted-is _ FixedEntry (old .asid) new-leaf
       ∙ rw (e .owner-word) (leaf-present _ (entry-tells s _ old (p .here) .address-fits))
 
   pub fixed-others : (guest : ℕ) → guest ≢ old .asid → consulted (fixing s (frameOf hpa) old leaf) FixedEntry guest ≡ Absent
   unfolding leafFrame entry
   fixed-others guest other =
-      let e = fixed-page s caller hpa leaf old p in
+      let e = fixing-does s caller hpa leaf old p in
       consulted-is _ FixedEntry guest new-leaf ∙ rw (e .other-words guest other) leaf-absent
 
 module _ (s : State) (caller hpa1 hpa2 : ℕ) (one two : Entry) (p : Merged s caller hpa1 hpa2 one two) where
   pub merged-here : consulted (merging s one (frameOf hpa2) two) one (two .asid) ≡ Present (two .address)
   merged-here =
-      let e = merged-page s caller hpa1 hpa2 one two p in
+      let e = merging-does s caller hpa1 hpa2 one two p in
       consulted-is _ one (two .asid) (rw (e .put .elsewhere _ (e .apart)) (e .is-leaf))
       ∙ rw (e .leaf-word) (leaf-present _ (entry-tells s _ two (p .here2) .address-fits))
 
   pub merged-others : (guest : ℕ) → guest ≢ two .asid → consulted (merging s one (frameOf hpa2) two) one guest ≡ consulted s one guest
   merged-others guest other =
-      let e = merged-page s caller hpa1 hpa2 one two p in
+      let e = merging-does s caller hpa1 hpa2 one two p in
       consulted-same s _ one guest (e .put .elsewhere _ (e .apart)) (e .leaf-words guest other)
 
 module _ (s : State) (caller hpa1 hpa2 asid : ℕ) (one two : Entry) (gpa : ℕ) (p : Unmerged s caller hpa1 hpa2 asid one two gpa) where
   pub unmerged-here : consulted (unmerging s (frameOf hpa1) one (frameOf hpa2) asid gpa) one asid ≡ Absent
   unmerged-here =
-      let e = unmerged-page s caller hpa1 hpa2 asid one two gpa p in
+      let e = unmerging-does s caller hpa1 hpa2 asid one two gpa p in
       consulted-is _ one asid (rw (e .put .elsewhere _ (e .apart)) (e .is-leaf)) ∙ rw (e .leaf-word) leaf-absent
 
   pub unmerged-others :
       (guest : ℕ) → guest ≢ asid
       → consulted (unmerging s (frameOf hpa1) one (frameOf hpa2) asid gpa) one guest ≡ consulted s one guest
   unmerged-others guest other =
-      let e = unmerged-page s caller hpa1 hpa2 asid one two gpa p in
+      let e = unmerging-does s caller hpa1 hpa2 asid one two gpa p in
       consulted-same s _ one guest (e .put .elsewhere _ (e .apart)) (e .leaf-words guest other)

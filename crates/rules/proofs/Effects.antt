@@ -3,13 +3,12 @@
 -- Assumes nothing.
 use mathlib.Core.Path.{_≡_, refl, sym, _∙_}
 use mathlib.Core.Bool.{Bool, true, false, false≢true}
-use mathlib.Core.Logic.{_≢_, _⊎_, inl, inr, ⊎-elim}
-use Prim.Native.Nat.{ℕ, _<_, _≤_}
+use mathlib.Core.Logic.{_≢_}
+use Prim.Native.Nat.{ℕ, _<_}
 use native.Mathlib.Omega.{arith}
-use lib.Dec.{eqb}
 use Rattle.words.specs.Choice.{pick, _or_}
-use Rattle.words.proofs.ChoiceLaws.{pick-true, pick-false}
-use Rattle.entries.specs.Entry.{SHARED, MERGEABLE, frameOf, isOwned, isUnowned, entry, zeroEntry, wellFormed, toValidated, toFixed, toUnfixed}
+use Rattle.entries.specs.Entry.{SHARED, MERGEABLE, frameOf, isOwned, isUnowned, entry, zeroEntry, wellFormed, toValidated, toFixed}
+use Rattle.entries.specs.Entry.{toUnfixed}
 use Rattle.entries.specs.Leaf.{presentAt}
 use Rattle.entries.specs.declared.entry.Entry.{Entry}
 use Rattle.entries.specs.declared.entry.Decoded.the-variants.{Good}
@@ -18,15 +17,17 @@ use Rattle.entries.specs.declared.leaf.LeafWord.the-variants.{Absent, Present, 
 use Rattle.entries.proofs.LeafLaws.{present-address}
 use Rattle.entries.proofs.Tells.{page-fits, fixed-fits, unowned-fits, guest-range}
 use Rattle.rules.specs.Assignment.{assigning, validating}
-use Rattle.rules.specs.Leaves.{leafFrame, isLeaf, consulted}
+use Rattle.rules.specs.Leaves.{leafFrame, isLeaf}
 use Rattle.rules.specs.Merging.{fixing, merging, unmerging, unfixing}
-use Rattle.rules.specs.State.{State, N, M, sized, entryAt, wordAt, withEntry, withWord, withZeros, withCopy}
-use Rattle.rules.proofs.ArgumentLaws.{update-tells, update-fits, validate-tells, two-addresses, unmerge-tells}
+use Rattle.rules.specs.State.{State, N, M, entryAt, wordAt, withEntry, withWord, withZeros, withCopy}
+use Rattle.rules.proofs.ArgumentLaws.{update-fits, validate-tells, two-addresses, unmerge-tells}
 use Rattle.rules.proofs.Leaves.{consulted-is, is-a-leaf, leaf-apart, not-a-leaf, leaf-inside}
 use Rattle.rules.proofs.Passed.{Updated, Validated, Fixed, Merged, Unmerged, Unfixed}
-use Rattle.rules.proofs.StateLaws.{SameSize, size-refl, size-trans, size-entry, size-word, size-zeros, size-copy, sizes, entry-tells}
+use Rattle.rules.proofs.StateLaws.{SameSize, size-refl, size-trans, size-entry, size-word, size-zeros, size-copy, sizes}
+use Rattle.rules.proofs.StateLaws.{entry-tells}
 use Rattle.rules.proofs.StateLaws.{entry-after-entry, entry-elsewhere, entry-after-word, entry-after-zeros, entry-after-copy}
-use Rattle.rules.proofs.StateLaws.{word-after-entry, word-after-word, word-elsewhere, word-beside, word-after-zeros, word-beside-zeros}
+use Rattle.rules.proofs.StateLaws.{word-after-entry, word-after-word, word-elsewhere, word-beside, word-after-zeros}
+use Rattle.rules.proofs.StateLaws.{word-beside-zeros}
 use Rattle.rules.proofs.StateLaws.{word-after-copy, word-beside-copy}
 
 -- one entry is another, and every other is as it was
@@ -82,33 +83,33 @@ unfolding pick
 kept-beside s f g i true apart = refl
 kept-beside s f g i false apart = word-beside-zeros s f g i apart
 
-pub record Assigned (s u : State) (f : ℕ) (e : Entry) : Type 0 where
+pub record Assigns (s u : State) (f : ℕ) (e : Entry) : Type 0 where
   pub put : Put s u f e
   pub words : (g i : ℕ) → g ≢ f → wordAt u g i ≡ wordAt s g i
 
-pub assigned :
+pub assigning-does :
     (s : State) (caller hpa gpa asid kind : ℕ) (old : Entry) → Updated s caller hpa gpa asid kind old
-    → Assigned s (assigning s (frameOf hpa) old gpa asid kind) (frameOf hpa) (entry asid kind false false gpa)
+    → Assigns s (assigning s (frameOf hpa) old gpa asid kind) (frameOf hpa) (entry asid kind false false gpa)
 unfolding assigning
-assigned s caller hpa gpa asid kind old p =
+assigning-does s caller hpa gpa asid kind old p =
     record {
       put = put-after (cleared s _ _) _ _ (p .inside) (update-fits caller hpa gpa asid kind (p .arguments) (N s));
       words = λ g i apart. word-after-entry _ _ _ g i ∙ kept-beside s _ g i _ apart;
     }
 
 -- ---- PVALIDATE
-pub record Opened (s u : State) (f : ℕ) (e : Entry) : Type 0 where
+pub record Validates (s u : State) (f : ℕ) (e : Entry) : Type 0 where
   pub put : Put s u f e
   pub words : (g i : ℕ) → wordAt u g i ≡ wordAt s g i
 
 nothing-yet : (s : State) → MemoryOnly s s
 nothing-yet s = record { same-size = size-refl s; entries = λ g. refl }
 
-pub validated-page :
+pub validating-does :
     (s : State) (caller gpa hpa kind : ℕ) (old : Entry) → Validated s caller gpa hpa kind old
-    → Opened s (validating s (frameOf hpa) old) (frameOf hpa) (entry caller kind true false gpa)
+    → Validates s (validating s (frameOf hpa) old) (frameOf hpa) (entry caller kind true false gpa)
 unfolding validating toValidated
-validated-page s caller gpa hpa kind old p =
+validating-does s caller gpa hpa kind old p =
     let t = validate-tells caller gpa hpa kind (p .arguments) in
     let small = t .caller-small in
     rw (p .owner, p .type, p .unfixed, p .address)
@@ -123,17 +124,17 @@ mergeable-owned : (kind : ℕ) → kind ≡ MERGEABLE → isOwned kind ≡ true
 unfolding isOwned _or_
 mergeable-owned kind h = rw h
 
-pub record FixedUp (s u : State) (f leaf : ℕ) (old e : Entry) : Type 0 where
+pub record Fixes (s u : State) (f leaf : ℕ) (old e : Entry) : Type 0 where
   pub put : Put s u f e
   pub words : (g i : ℕ) → g ≢ leaf → wordAt u g i ≡ wordAt s g i
   pub owner-word : wordAt u leaf (old .asid) ≡ presentAt (old .address)
   pub other-words : (i : ℕ) → i ≢ old .asid → wordAt u leaf i ≡ 0
 
-pub fixed-page :
+pub fixing-does :
     (s : State) (caller hpa leaf : ℕ) (old : Entry) → Fixed s caller hpa leaf old
-    → FixedUp s (fixing s (frameOf hpa) old leaf) (frameOf hpa) (frameOf leaf) old (entry (old .asid) MERGEABLE true true leaf)
+    → Fixes s (fixing s (frameOf hpa) old leaf) (frameOf hpa) (frameOf leaf) old (entry (old .asid) MERGEABLE true true leaf)
 unfolding fixing toFixed
-fixed-page s caller hpa leaf old p =
+fixing-does s caller hpa leaf old p =
     let z = sizes s (p .size) in
     let t = entry-tells s _ old (p .here) in
     let small = t .asid-small in
@@ -145,7 +146,8 @@ fixed-page s caller hpa leaf old p =
     rw (p .type, p .validated)
     (record {
       put = put-after (memory-both (memory-zeros s _) (memory-word _ _ _ _)) _ _ (p .inside)
-          (fixed-fits (N s) (old .asid) leaf (t .owned-asid (mergeable-owned _ (p .type))) small (two-addresses caller hpa leaf (p .arguments) .1) inside);
+          (fixed-fits (N s) (old .asid) leaf (t .owned-asid (mergeable-owned _ (p .type))) small
+          (two-addresses caller hpa leaf (p .arguments) .1) inside);
       words = λ g i apart. word-after-entry _ _ _ g i ∙ word-elsewhere _ _ _ _ g i apart ∙ word-beside-zeros s _ g i apart;
       owner-word = word-after-entry _ _ _ _ _ ∙ word-after-word zeroed _ _ _ below small;
       other-words = λ i apart. word-after-entry _ _ _ _ _ ∙ word-beside zeroed _ _ _ _ i apart ∙ word-after-zeros s _ i;
@@ -162,7 +164,7 @@ zero-fits : (n : ℕ) → wellFormed n zeroEntry ≡ true
 unfolding zeroEntry isUnowned _or_
 zero-fits n = unowned-fits n SHARED refl
 
-pub record MergedIn (s u : State) (leaf f2 : ℕ) (two : Entry) : Type 0 where
+pub record Merges (s u : State) (leaf f2 : ℕ) (two : Entry) : Type 0 where
   pub put : Put s u f2 zeroEntry
   pub is-leaf : isLeaf (entryAt s leaf) ≡ true
   pub apart : leaf ≢ f2
@@ -170,11 +172,11 @@ pub record MergedIn (s u : State) (leaf f2 : ℕ) (two : Entry) : Type 0 where
   pub leaf-word : wordAt u leaf (two .asid) ≡ presentAt (two .address)
   pub leaf-words : (i : ℕ) → i ≢ two .asid → wordAt u leaf i ≡ wordAt s leaf i
 
-pub merged-page :
+pub merging-does :
     (s : State) (caller hpa1 hpa2 : ℕ) (one two : Entry) → Merged s caller hpa1 hpa2 one two
-    → MergedIn s (merging s one (frameOf hpa2) two) (leafFrame one) (frameOf hpa2) two
+    → Merges s (merging s one (frameOf hpa2) two) (leafFrame one) (frameOf hpa2) two
 unfolding merging
-merged-page s caller hpa1 hpa2 one two p =
+merging-does s caller hpa1 hpa2 one two p =
     let inside = leaf-inside s _ one (p .here1) (p .fixed1) in
     let least = sizes s (p .size) .memory-least in
     let small = entry-tells s _ two (p .here2) .asid-small in
@@ -189,7 +191,7 @@ merged-page s caller hpa1 hpa2 one two p =
       leaf-words = λ i other. word-after-entry _ _ _ _ i ∙ word-beside-zeros _ _ _ i apart ∙ word-beside s _ _ _ _ i other;
     }
 
-pub record UnmergedTo (s u : State) (f1 f2 leaf asid : ℕ) (e : Entry) : Type 0 where
+pub record Unmerges (s u : State) (f1 f2 leaf asid : ℕ) (e : Entry) : Type 0 where
   pub put : Put s u f2 e
   pub is-leaf : isLeaf (entryAt s leaf) ≡ true
   pub apart : leaf ≢ f2
@@ -198,12 +200,12 @@ pub record UnmergedTo (s u : State) (f1 f2 leaf asid : ℕ) (e : Entry) : Type 0
   pub leaf-word : wordAt u leaf asid ≡ 0
   pub leaf-words : (i : ℕ) → i ≢ asid → wordAt u leaf i ≡ wordAt s leaf i
 
-pub unmerged-page :
+pub unmerging-does :
     (s : State) (caller hpa1 hpa2 asid : ℕ) (one two : Entry) (gpa : ℕ) → Unmerged s caller hpa1 hpa2 asid one two gpa
-    → UnmergedTo s (unmerging s (frameOf hpa1) one (frameOf hpa2) asid gpa) (frameOf hpa1) (frameOf hpa2) (leafFrame one) asid
+    → Unmerges s (unmerging s (frameOf hpa1) one (frameOf hpa2) asid gpa) (frameOf hpa1) (frameOf hpa2) (leafFrame one) asid
     (entry asid MERGEABLE true false gpa)
 unfolding unmerging
-unmerged-page s caller hpa1 hpa2 asid one two gpa p =
+unmerging-does s caller hpa1 hpa2 asid one two gpa p =
     let inside = leaf-inside s _ one (p .here1) (p .fixed1) in
     let least = sizes s (p .size) .memory-least in
     let inside1 = p .inside1 in
@@ -222,12 +224,13 @@ unmerged-page s caller hpa1 hpa2 asid one two gpa p =
       is-leaf = is-leaf;
       apart = apart;
       words = λ g i other off. word-elsewhere moved _ _ _ g i off ∙ word-after-entry copy _ e g i ∙ word-beside-copy s _ _ g i other;
-      copied = λ i. word-elsewhere moved _ _ _ _ i (λ same. apart (sym same)) ∙ word-after-entry copy _ e _ i ∙ word-after-copy s _ _ i (omega arith) (omega arith);
+      copied = λ i. word-elsewhere moved _ _ _ _ i (λ same. apart (sym same)) ∙ word-after-entry copy _ e _ i
+          ∙ word-after-copy s _ _ i (omega arith) (omega arith);
       leaf-word = word-after-word moved _ _ _ (rw m (omega arith)) (omega arith);
       leaf-words = λ i other. word-beside moved _ _ _ _ i other ∙ word-after-entry copy _ e _ i ∙ word-beside-copy s _ _ _ i apart;
     }
 
-pub record UnfixedTo (s u : State) (f leaf : ℕ) (e : Entry) : Type 0 where
+pub record Unfixes (s u : State) (f leaf : ℕ) (e : Entry) : Type 0 where
   pub same-size : SameSize s u
   pub is-leaf : isLeaf (entryAt s leaf) ≡ true
   pub apart : leaf ≢ f
@@ -241,11 +244,11 @@ unfixed-is :
 unfolding toUnfixed
 unfixed-is e gpa k v = rw (k, v)
 
-pub unfixed-page :
+pub unfixing-does :
     (s : State) (caller hpa : ℕ) (old : Entry) (gpa : ℕ) → Unfixed s caller hpa old gpa
-    → UnfixedTo s (unfixing s (frameOf hpa) old gpa) (frameOf hpa) (leafFrame old) (entry (old .asid) MERGEABLE true false gpa)
+    → Unfixes s (unfixing s (frameOf hpa) old gpa) (frameOf hpa) (leafFrame old) (entry (old .asid) MERGEABLE true false gpa)
 unfolding unfixing
-unfixed-page s caller hpa old gpa p =
+unfixing-does s caller hpa old gpa p =
     let inside = leaf-inside s _ old (p .here) (p .fixed) in
     let t = entry-tells s _ old (p .here) in
     let is-leaf = is-a-leaf s old (old .asid) (from-present (p .place)) in

@@ -3,8 +3,8 @@
 -- Assumes nothing.
 use mathlib.Core.Path.{_≡_, refl, sym, _∙_}
 use mathlib.Core.Bool.{Bool, true, false, false≢true}
-use mathlib.Core.Logic.{_≢_, _⊎_, inl, inr, ⊎-elim}
-use Prim.Native.Nat.{ℕ, zero, suc, _+_, _*_, _-_, _/_, _%_, _<_, _≤_}
+use mathlib.Core.Logic.{_≢_, ⊎-elim}
+use Prim.Native.Nat.{ℕ, zero, suc, _%_, _<_}
 use native.Mathlib.Omega.{arith}
 use lib.Dec.{eqb}
 use borrow.Author.Tests.{eqb-true, eqb-false, eq-eqb, ne-eqb}
@@ -15,8 +15,7 @@ use Rattle.entries.specs.Leaf.{leafWord}
 use Rattle.entries.specs.declared.entry.Entry.{Entry}
 use Rattle.entries.specs.declared.entry.Decoded.{Decoded}
 use Rattle.entries.specs.declared.entry.Decoded.the-variants.{Good, Bad}
-use Rattle.entries.specs.declared.leaf.LeafWord.{LeafWord}
-use Rattle.entries.specs.declared.leaf.LeafWord.the-variants.{Absent, Present, Misshapen}
+use Rattle.entries.specs.declared.leaf.LeafWord.the-variants.{Absent, Misshapen}
 use Rattle.entries.proofs.LeafLaws.{address-whole}
 use Rattle.entries.proofs.Tells.{owned-kinds}
 use Rattle.rules.specs.Leaves.{leafFrame, isLeaf, consulted, namesLeaf, leafInUse, isSharedBy, stillShared}

@@ -2,30 +2,30 @@
 -- Assumes nothing.
 use mathlib.Core.Path.{_≡_, refl, sym, _∙_}
 use mathlib.Core.Bool.{true, false}
-use mathlib.Core.Logic.{_≢_, _⊎_, inl, inr, ⊎-elim}
-use Prim.Native.Nat.{ℕ, _≤_, _<_}
+use mathlib.Core.Logic.{_≢_, ⊎-elim}
+use Prim.Native.Nat.{ℕ}
 use native.Mathlib.Omega.{arith}
-use Rattle.words.proofs.ChoiceLaws.{same-or-not, true-or-false}
-use Rattle.entries.specs.Entry.{SHARED, MERGEABLE, LEAF, frameOf, isGuest, isOwned, entry, zeroEntry}
+use Rattle.words.proofs.ChoiceLaws.{same-or-not}
+use Rattle.entries.specs.Entry.{SHARED, MERGEABLE, frameOf, isGuest, isOwned, entry, zeroEntry}
 use Rattle.entries.specs.declared.entry.Entry.{Entry}
-use Rattle.entries.specs.declared.entry.Decoded.{Decoded}
-use Rattle.entries.specs.declared.entry.Decoded.the-variants.{Good, Bad}
 use Rattle.entries.proofs.Tells.{guest-range, owned-kinds, false-not-true}
 use Rattle.rules.specs.Census.{holds, nothing, holding}
 use Rattle.rules.specs.History.{neither}
-use Rattle.rules.specs.Leaves.{leafFrame, isLeaf, consulted}
+use Rattle.rules.specs.Leaves.{leafFrame, isLeaf}
 use Rattle.rules.specs.Merging.{fixing, merging, unmerging, unfixing}
-use Rattle.rules.specs.State.{State, N, M, entryAt, wordAt}
+use Rattle.rules.specs.State.{State, entryAt, wordAt}
 use Rattle.rules.proofs.Changes.{Change}
-use Rattle.rules.proofs.Consulted.{fixed-consulted, merged-consulted, unmerged-consulted, unfixed-consulted, fixed-owner, fixed-others}
+use Rattle.rules.proofs.Consulted.{fixed-consulted, merged-consulted, unmerged-consulted, unfixed-consulted, fixed-owner}
+use Rattle.rules.proofs.Consulted.{fixed-others}
 use Rattle.rules.proofs.Consulted.{merged-here, merged-others, unmerged-here, unmerged-others}
-use Rattle.rules.proofs.Effects.{FixedUp, fixed-page, MergedIn, merged-page, UnmergedTo, unmerged-page, UnfixedTo, unfixed-page}
-use Rattle.rules.proofs.Holdings.{present-there, absent-there, holding-same, unopened, of-another, of-its-own, nobodys, leaf-nothing}
+use Rattle.rules.proofs.Effects.{Fixes, fixing-does, Merges, merging-does, Unmerges, unmerging-does, Unfixes, unfixing-does}
+use Rattle.rules.proofs.Holdings.{present-there, absent-there, holding-same, unopened, of-another, of-its-own, nobodys}
+use Rattle.rules.proofs.Holdings.{leaf-nothing}
 use Rattle.rules.proofs.Leaves.{consulted-is, unshared-word}
 use Rattle.rules.proofs.Passed.{Fixed, Merged, Unmerged, Unfixed}
 use Rattle.rules.proofs.Sound.{Sound}
 use Rattle.rules.proofs.SoundSteps.{same-good}
-use Rattle.rules.proofs.StateLaws.{sizes, entry-tells, equal-words}
+use Rattle.rules.proofs.StateLaws.{sizes, equal-words}
 use Rattle.rules.proofs.Ways.{place-apart, stays, moves}
 
 -- ---- PFIX
@@ -33,8 +33,8 @@ module _ (s : State) (sound : Sound s) (caller hpa leaf : ℕ) (before : Entry) 
   abbrev fixedNow : State
   fixedNow = fixing s (frameOf hpa) before leaf
 
-  effect : FixedUp s fixedNow (frameOf hpa) (frameOf leaf) before (entry (before .asid) MERGEABLE true true leaf)
-  effect = fixed-page s caller hpa leaf before p
+  fix-effect : Fixes s fixedNow (frameOf hpa) (frameOf leaf) before (entry (before .asid) MERGEABLE true true leaf)
+  fix-effect = fixing-does s caller hpa leaf before p
 
   -- the page is the owner's place, by its entry before and by its word in the leaf after
   fixed-here : holding fixedNow guest (frameOf hpa) ≡ holding s guest (frameOf hpa)
@@ -43,21 +43,22 @@ module _ (s : State) (sound : Sound s) (caller hpa leaf : ℕ) (before : Entry) 
       ⊎-elim
       (λ own.
       rw (← own)
-      (present-there fixedNow _ _ _ (effect .put .here) refl _ (fixed-owner s caller hpa leaf before p)
+      (present-there fixedNow _ _ _ (fix-effect .put .here) refl _ (fixed-owner s caller hpa leaf before p)
       ∙ sym (of-its-own s _ _ before (p .here) (p .unfixed) (p .validated) refl)))
       (λ other.
-      absent-there fixedNow guest _ _ (effect .put .here) refl (fixed-others s caller hpa leaf before p guest (λ same. other (sym same)))
+      absent-there fixedNow guest _ _ (fix-effect .put .here) refl
+      (fixed-others s caller hpa leaf before p guest (λ same. other (sym same)))
       ∙ sym (of-another s guest _ before (p .here) (p .unfixed) other))
       (same-or-not (before .asid) guest)
 
   pub fix-change : Change s fixedNow neither guest
   fix-change =
-      stays s fixedNow guest (effect .put .same-size .same-N)
+      stays s fixedNow guest (fix-effect .put .same-size .same-N)
       (λ f. ⊎-elim (λ here. rw here fixed-here)
-      (λ other. holding-same s fixedNow guest f (effect .put .elsewhere f other)
+      (λ other. holding-same s fixedNow guest f (fix-effect .put .elsewhere f other)
       (λ e here fixed. fixed-consulted s sound f e here fixed guest caller hpa leaf before p))
       (same-or-not f (frameOf hpa)))
-      (λ f at i h. effect .words f i (place-apart s guest at f _ h (leaf-nothing s guest _ (p .is-leaf))))
+      (λ f at i h. fix-effect .words f i (place-apart s guest at f _ h (leaf-nothing s guest _ (p .is-leaf))))
 
 -- ---- PUNFIX
 module _ (s : State) (sound : Sound s) (caller hpa : ℕ) (before : Entry) (gpa : ℕ) (p : Unfixed s caller hpa before gpa) (guest : ℕ)
@@ -65,8 +66,8 @@ module _ (s : State) (sound : Sound s) (caller hpa : ℕ) (before : Entry) (gpa 
   abbrev unfixedNow : State
   unfixedNow = unfixing s (frameOf hpa) before gpa
 
-  loosed : UnfixedTo s unfixedNow (frameOf hpa) (leafFrame before) (entry (before .asid) MERGEABLE true false gpa)
-  loosed = unfixed-page s caller hpa before gpa p
+  unfix-effect : Unfixes s unfixedNow (frameOf hpa) (leafFrame before) (entry (before .asid) MERGEABLE true false gpa)
+  unfix-effect = unfixing-does s caller hpa before gpa p
 
   -- no other guest has a word there
   unfixed-here : holding unfixedNow guest (frameOf hpa) ≡ holding s guest (frameOf hpa)
@@ -75,59 +76,62 @@ module _ (s : State) (sound : Sound s) (caller hpa : ℕ) (before : Entry) (gpa 
       ⊎-elim
       (λ own.
       rw (← own)
-      (of-its-own unfixedNow _ _ _ (loosed .here) refl refl refl ∙ sym (present-there s _ _ before (p .here) (p .fixed) gpa (p .place))))
+      (of-its-own unfixedNow _ _ _ (unfix-effect .here) refl refl refl
+      ∙ sym (present-there s _ _ before (p .here) (p .fixed) gpa (p .place))))
       (λ other.
       let small = guest-range guest range .1 in
-      of-another unfixedNow guest _ _ (loosed .here) refl other
+      of-another unfixedNow guest _ _ (unfix-effect .here) refl other
       ∙ sym (absent-there s guest _ before (p .here) (p .fixed)
-      (consulted-is s before guest (loosed .is-leaf)
+      (consulted-is s before guest (unfix-effect .is-leaf)
       ∙ unshared-word s _ (before .asid) 512 guest (p .unshared) (omega arith) (λ same. other (sym same)))))
       (same-or-not (before .asid) guest)
 
   pub unfix-change : Change s unfixedNow neither guest
   unfolding zeroEntry entry
   unfix-change =
-      stays s unfixedNow guest (loosed .same-size .same-N)
+      stays s unfixedNow guest (unfix-effect .same-size .same-N)
       (λ f. ⊎-elim (λ here. rw here unfixed-here)
       (λ other. ⊎-elim
-      (λ at. rw at (unopened unfixedNow guest _ _ (loosed .leaf-here) refl refl ∙ sym (leaf-nothing s guest _ (loosed .is-leaf))))
-      (λ off. holding-same s unfixedNow guest f (loosed .elsewhere f other off)
+      (λ at. rw at (unopened unfixedNow guest _ _ (unfix-effect .leaf-here) refl refl
+      ∙ sym (leaf-nothing s guest _ (unfix-effect .is-leaf))))
+      (λ off. holding-same s unfixedNow guest f (unfix-effect .elsewhere f other off)
       (λ e here fixed. unfixed-consulted s sound f e here fixed guest caller hpa before gpa p other))
       (same-or-not f (leafFrame before)))
       (same-or-not f (frameOf hpa)))
-      (λ f at i h. loosed .words f i (place-apart s guest at f _ h (leaf-nothing s guest _ (loosed .is-leaf))))
+      (λ f at i h. unfix-effect .words f i (place-apart s guest at f _ h (leaf-nothing s guest _ (unfix-effect .is-leaf))))
 
 -- ---- PMERGE
 module _ (s : State) (sound : Sound s) (caller hpa1 hpa2 : ℕ) (one two : Entry) (p : Merged s caller hpa1 hpa2 one two) where
   abbrev mergedNow : State
   mergedNow = merging s one (frameOf hpa2) two
 
-  joined : MergedIn s mergedNow (leafFrame one) (frameOf hpa2) two
-  joined = merged-page s caller hpa1 hpa2 one two p
+  merge-effect : Merges s mergedNow (leafFrame one) (frameOf hpa2) two
+  merge-effect = merging-does s caller hpa1 hpa2 one two p
 
   -- frame 1 is fixed and frame 2 is not
   merge-apart : frameOf hpa1 ≢ frameOf hpa2
   merge-apart same = false-not-true (p .unfixed2) (rw (← (same-good s _ _ one two (p .here1) (p .here2) same)) (p .fixed1))
 
   module _ (guest : ℕ) where
-    freed : holding mergedNow guest (frameOf hpa2) ≡ nothing
+    merge-left : holding mergedNow guest (frameOf hpa2) ≡ nothing
     unfolding zeroEntry entry
-    freed = unopened mergedNow guest _ _ (joined .put .here) refl refl
+    merge-left = unopened mergedNow guest _ _ (merge-effect .put .here) refl refl
 
     -- a frame other than the two
     merge-beside : (f : ℕ) → f ≢ frameOf hpa1 → f ≢ frameOf hpa2 → holding mergedNow guest f ≡ holding s guest f
     merge-beside f off away =
-        holding-same s mergedNow guest f (joined .put .elsewhere f away)
+        holding-same s mergedNow guest f (merge-effect .put .elsewhere f away)
         (λ e here fixed. merged-consulted s sound f e here fixed guest caller hpa1 hpa2 one two p off)
 
     merge-words : (f gpa i : ℕ) → f ≢ frameOf hpa2 → holding s guest f ≡ holds gpa → wordAt mergedNow f i ≡ wordAt s f i
-    merge-words f gpa i away h = joined .words f i away (place-apart s guest gpa f _ h (leaf-nothing s guest _ (joined .is-leaf)))
+    merge-words f gpa i away h =
+        merge-effect .words f i away (place-apart s guest gpa f _ h (leaf-nothing s guest _ (merge-effect .is-leaf)))
 
     -- another guest's places stay
     merge-stays : two .asid ≢ guest → Change s mergedNow neither guest
     merge-stays other =
-        stays s mergedNow guest (joined .put .same-size .same-N)
-        (λ f. ⊎-elim (λ here. rw here (freed ∙ sym was))
+        stays s mergedNow guest (merge-effect .put .same-size .same-N)
+        (λ f. ⊎-elim (λ here. rw here (merge-left ∙ sym was))
         (λ away. ⊎-elim (λ here. rw here first) (λ off. merge-beside f off away) (same-or-not f (frameOf hpa1)))
         (same-or-not f (frameOf hpa2)))
         (λ f gpa i h. merge-words f gpa i (place-apart s guest gpa f _ h was) h)
@@ -137,7 +141,7 @@ module _ (s : State) (sound : Sound s) (caller hpa1 hpa2 : ℕ) (one two : Entry
 
         first : holding mergedNow guest (frameOf hpa1) ≡ holding s guest (frameOf hpa1)
         first =
-            holding-same s mergedNow guest _ (joined .put .elsewhere _ merge-apart)
+            holding-same s mergedNow guest _ (merge-effect .put .elsewhere _ merge-apart)
             (λ e here fixed. rw (same-good s _ _ e one here (p .here1) refl)
             (merged-others s caller hpa1 hpa2 one two p guest (λ same. other (sym same))))
 
@@ -148,21 +152,21 @@ module _ (s : State) (sound : Sound s) (caller hpa1 hpa2 : ℕ) (one two : Entry
       let in1 = p .inside1 in
       let in2 = p .inside2 in
       let off = place-apart mergedNow (two .asid) (two .address) (frameOf hpa1) _ to (leaf-nothing mergedNow (two .asid) _ leaf) in
-      moves s mergedNow (two .asid) (joined .put .same-size .same-N) (frameOf hpa2) (frameOf hpa1) (two .address)
+      moves s mergedNow (two .asid) (merge-effect .put .same-size .same-N) (frameOf hpa2) (frameOf hpa1) (two .address)
       (of-its-own s _ _ two (p .here2) (p .unfixed2) (p .validated2) refl)
       (absent-there s _ _ one (p .here1) (p .fixed1) (p .no-place))
-      (freed (two .asid))
+      (merge-left (two .asid))
       to
       (λ f away off. merge-beside (two .asid) f off away)
-      (λ i. joined .words _ i merge-apart off ∙ equal-words s _ _ (p .equal) (omega arith) (omega arith) i)
+      (λ i. merge-effect .words _ i merge-apart off ∙ equal-words s _ _ (p .equal) (omega arith) (omega arith) i)
       (λ f gpa i away off h. merge-words (two .asid) f gpa i away h)
     where
       leaf : isLeaf (entryAt mergedNow (leafFrame one)) ≡ true
-      leaf = rw (joined .put .elsewhere _ (joined .apart)) (joined .is-leaf)
+      leaf = rw (merge-effect .put .elsewhere _ (merge-effect .apart)) (merge-effect .is-leaf)
 
       to : holding mergedNow (two .asid) (frameOf hpa1) ≡ holds (two .address)
       to =
-          present-there mergedNow _ _ one (joined .put .elsewhere _ merge-apart ∙ p .here1) (p .fixed1) _
+          present-there mergedNow _ _ one (merge-effect .put .elsewhere _ merge-apart ∙ p .here1) (p .fixed1) _
           (merged-here s caller hpa1 hpa2 one two p)
 
   pub merge-change : (guest : ℕ) → Change s mergedNow neither guest
@@ -177,8 +181,8 @@ module _ (s : State) (sound : Sound s) (caller hpa1 hpa2 asid : ℕ) (one two : 
   abbrev unmergedNow : State
   unmergedNow = unmerging s (frameOf hpa1) one (frameOf hpa2) asid gpa
 
-  parted : UnmergedTo s unmergedNow (frameOf hpa1) (frameOf hpa2) (leafFrame one) asid (entry asid MERGEABLE true false gpa)
-  parted = unmerged-page s caller hpa1 hpa2 asid one two gpa p
+  unmerge-effect : Unmerges s unmergedNow (frameOf hpa1) (frameOf hpa2) (leafFrame one) asid (entry asid MERGEABLE true false gpa)
+  unmerge-effect = unmerging-does s caller hpa1 hpa2 asid one two gpa p
 
   -- frame 1 is MERGEABLE and frame 2 is SHARED
   unmerge-apart : frameOf hpa1 ≢ frameOf hpa2
@@ -189,29 +193,30 @@ module _ (s : State) (sound : Sound s) (caller hpa1 hpa2 asid : ℕ) (one two : 
       let z : ⊥ = omega arith in absurd z
 
   module _ (guest : ℕ) where
-    empty : holding s guest (frameOf hpa2) ≡ nothing
-    empty = nobodys s guest _ two (p .here2) (shared-unowned (p .type2))
+    unmerge-free : holding s guest (frameOf hpa2) ≡ nothing
+    unmerge-free = nobodys s guest _ two (p .here2) (shared-unowned (p .type2))
 
     unmerge-beside : (f : ℕ) → f ≢ frameOf hpa1 → f ≢ frameOf hpa2 → holding unmergedNow guest f ≡ holding s guest f
     unmerge-beside f off away =
-        holding-same s unmergedNow guest f (parted .put .elsewhere f away)
+        holding-same s unmergedNow guest f (unmerge-effect .put .elsewhere f away)
         (λ e here fixed. unmerged-consulted s sound f e here fixed guest caller hpa1 hpa2 asid one two gpa p off)
 
     unmerge-words : (f at i : ℕ) → f ≢ frameOf hpa2 → holding s guest f ≡ holds at → wordAt unmergedNow f i ≡ wordAt s f i
-    unmerge-words f at i away h = parted .words f i away (place-apart s guest at f _ h (leaf-nothing s guest _ (parted .is-leaf)))
+    unmerge-words f at i away h =
+        unmerge-effect .words f i away (place-apart s guest at f _ h (leaf-nothing s guest _ (unmerge-effect .is-leaf)))
 
     unmerge-stays : asid ≢ guest → Change s unmergedNow neither guest
     unfolding entry
     unmerge-stays other =
-        stays s unmergedNow guest (parted .put .same-size .same-N)
-        (λ f. ⊎-elim (λ here. rw here (of-another unmergedNow guest _ _ (parted .put .here) refl other ∙ sym empty))
+        stays s unmergedNow guest (unmerge-effect .put .same-size .same-N)
+        (λ f. ⊎-elim (λ here. rw here (of-another unmergedNow guest _ _ (unmerge-effect .put .here) refl other ∙ sym unmerge-free))
         (λ away. ⊎-elim (λ here. rw here first) (λ off. unmerge-beside f off away) (same-or-not f (frameOf hpa1)))
         (same-or-not f (frameOf hpa2)))
-        (λ f at i h. unmerge-words f at i (place-apart s guest at f _ h empty) h)
+        (λ f at i h. unmerge-words f at i (place-apart s guest at f _ h unmerge-free) h)
       where
         first : holding unmergedNow guest (frameOf hpa1) ≡ holding s guest (frameOf hpa1)
         first =
-            holding-same s unmergedNow guest _ (parted .put .elsewhere _ unmerge-apart)
+            holding-same s unmergedNow guest _ (unmerge-effect .put .elsewhere _ unmerge-apart)
             (λ e here fixed. rw (same-good s _ _ e one here (p .here1) refl)
             (unmerged-others s caller hpa1 hpa2 asid one two gpa p guest (λ same. other (sym same))))
 
@@ -219,14 +224,14 @@ module _ (s : State) (sound : Sound s) (caller hpa1 hpa2 asid : ℕ) (one two : 
   unmerge-moves : Change s unmergedNow neither asid
   unfolding entry
   unmerge-moves =
-      moves s unmergedNow asid (parted .put .same-size .same-N) (frameOf hpa1) (frameOf hpa2) gpa
+      moves s unmergedNow asid (unmerge-effect .put .same-size .same-N) (frameOf hpa1) (frameOf hpa2) gpa
       (present-there s _ _ one (p .here1) (p .fixed1) gpa (p .place))
-      (empty asid)
-      (absent-there unmergedNow _ _ one (parted .put .elsewhere _ unmerge-apart ∙ p .here1) (p .fixed1)
+      (unmerge-free asid)
+      (absent-there unmergedNow _ _ one (unmerge-effect .put .elsewhere _ unmerge-apart ∙ p .here1) (p .fixed1)
       (unmerged-here s caller hpa1 hpa2 asid one two gpa p))
-      (of-its-own unmergedNow _ _ _ (parted .put .here) refl refl refl)
+      (of-its-own unmergedNow _ _ _ (unmerge-effect .put .here) refl refl refl)
       (unmerge-beside asid)
-      (parted .copied)
+      (unmerge-effect .copied)
       (λ f at i off away h. unmerge-words asid f at i away h)
 
   pub unmerge-change : (guest : ℕ) → Change s unmergedNow neither guest

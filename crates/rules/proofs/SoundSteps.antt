@@ -3,7 +3,7 @@
 -- Assumes nothing.
 use mathlib.Core.Path.{_≡_, refl, sym, _∙_}
 use mathlib.Core.Bool.{true, false, false≢true}
-use mathlib.Core.Logic.{_≢_, _⊎_, inl, inr, ⊎-elim}
+use mathlib.Core.Logic.{_≢_, ⊎-elim}
 use Prim.Native.Nat.{ℕ, _<_}
 use Rattle.words.proofs.ChoiceLaws.{same-or-not}
 use Rattle.entries.specs.Entry.{MERGEABLE, frameOf, entry, zeroEntry}
@@ -21,13 +21,15 @@ use Rattle.rules.proofs.ArgumentLaws.{two-addresses}
 use Rattle.rules.proofs.Consulted.{assigned-consulted, validated-consulted, fixed-consulted, merged-consulted, unmerged-consulted}
 use Rattle.rules.proofs.Consulted.{unfixed-consulted, written-consulted, fixed-owner, fixed-others, merged-here, merged-others}
 use Rattle.rules.proofs.Consulted.{unmerged-here, unmerged-others}
-use Rattle.rules.proofs.Effects.{Put, assigned, validated-page, FixedUp, fixed-page, merged-page, unmerged-page, UnfixedTo, unfixed-page}
+use Rattle.rules.proofs.Effects.{Put, assigning-does, validating-does, Fixes, fixing-does, merging-does, unmerging-does, Unfixes}
+use Rattle.rules.proofs.Effects.{unfixing-does}
 use Rattle.rules.proofs.Effects.{from-absent, from-present}
 use Rattle.rules.proofs.Leaves.{unused-leaf}
-use Rattle.rules.proofs.Passed.{Updated, Validated, Fixed, Merged, Unmerged, Unfixed, Way, Accessed}
-use Rattle.rules.proofs.Passed.{rmpupdate-cases, pvalidate-cases, pfix-cases, pmerge-cases, punmerge-cases, punfix-cases, write-cases}
+use Rattle.rules.proofs.Passed.{Updated, Validated, Fixed, Merged, Unmerged, Unfixed, Way}
+use Rattle.rules.proofs.Passed.{rmpupdate-cases, pvalidate-cases, pfix-cases, pmerge-cases, punmerge-cases, punfix-cases}
+use Rattle.rules.proofs.Passed.{write-cases}
 use Rattle.rules.proofs.Sound.{Sound}
-use Rattle.rules.proofs.StateLaws.{SameSize, entry-after-word, size-word}
+use Rattle.rules.proofs.StateLaws.{entry-after-word, size-word}
 use Rattle.rules.proofs.Steps.{read-keeps, census-keeps}
 
 -- two readings of one frame are one entry, and not both good and bad
@@ -79,7 +81,7 @@ module _ (s : State) (sound : Sound s) where
       → Sound (assigning s (frameOf hpa) old gpa asid kind)
   unfolding entry
   assigning-sound caller hpa gpa asid kind old p =
-      let e = assigned s caller hpa gpa asid kind old p .put in
+      let e = assigning-does s caller hpa gpa asid kind old p .put in
       no-new-page _ (put-decodes e) (put-was e refl)
       (λ g d guest here fixed.
       let page = put-was e refl g d here fixed in
@@ -89,7 +91,7 @@ module _ (s : State) (sound : Sound s) where
       (caller gpa hpa kind : ℕ) (old : Entry) → Validated s caller gpa hpa kind old → Sound (validating s (frameOf hpa) old)
   unfolding entry
   validating-sound caller gpa hpa kind old p =
-      let e = validated-page s caller gpa hpa kind old p .put in
+      let e = validating-does s caller gpa hpa kind old p .put in
       no-new-page _ (put-decodes e) (put-was e refl)
       (λ g d guest here fixed.
       let page = put-was e refl g d here fixed in
@@ -99,7 +101,7 @@ module _ (s : State) (sound : Sound s) where
       (caller hpa1 hpa2 : ℕ) (one two : Entry) → Merged s caller hpa1 hpa2 one two → Sound (merging s one (frameOf hpa2) two)
   unfolding zeroEntry entry
   merging-sound caller hpa1 hpa2 one two p =
-      let e = merged-page s caller hpa1 hpa2 one two p .put in
+      let e = merging-does s caller hpa1 hpa2 one two p .put in
       no-new-page _ (put-decodes e) (put-was e refl)
       (λ g d guest here fixed.
       let page = put-was e refl g d here fixed in
@@ -120,7 +122,7 @@ module _ (s : State) (sound : Sound s) where
       → Sound (unmerging s (frameOf hpa1) one (frameOf hpa2) asid gpa)
   unfolding entry
   unmerging-sound caller hpa1 hpa2 asid one two gpa p =
-      let e = unmerged-page s caller hpa1 hpa2 asid one two gpa p .put in
+      let e = unmerging-does s caller hpa1 hpa2 asid one two gpa p .put in
       no-new-page _ (put-decodes e) (put-was e refl)
       (λ g d guest here fixed.
       let page = put-was e refl g d here fixed in
@@ -148,8 +150,8 @@ module _ (s : State) (sound : Sound s) where
       let page = sym (e .elsewhere g (apart .0) (apart .1)) ∙ here in
       still-unbroken g d guest page fixed (unfixed-consulted s sound g d page fixed guest caller hpa old gpa p (apart .0)))
     where
-      e : UnfixedTo s (unfixing s (frameOf hpa) old gpa) (frameOf hpa) (leafFrame old) (entry (old .asid) MERGEABLE true false gpa)
-      e = unfixed-page s caller hpa old gpa p
+      e : Unfixes s (unfixing s (frameOf hpa) old gpa) (frameOf hpa) (leafFrame old) (entry (old .asid) MERGEABLE true false gpa)
+      e = unfixing-does s caller hpa old gpa p
 
       off : (g : ℕ) (d : Entry) → entryAt (unfixing s (frameOf hpa) old gpa) g ≡ Good d → d .fixed ≡ true
           → (g ≢ frameOf hpa) × (g ≢ leafFrame old)
@@ -183,8 +185,8 @@ module _ (s : State) (sound : Sound s) where
     abbrev new : Entry
     new = entry (old .asid) MERGEABLE true true leaf
 
-    e : FixedUp s u (frameOf hpa) (frameOf leaf) old new
-    e = fixed-page s caller hpa leaf old p
+    e : Fixes s u (frameOf hpa) (frameOf leaf) old new
+    e = fixing-does s caller hpa leaf old p
 
     was : (g : ℕ) (d : Entry) → entryAt u g ≡ Good d → g ≢ frameOf hpa → entryAt s g ≡ Good d
     was g d here other = sym (e .put .elsewhere g other) ∙ here

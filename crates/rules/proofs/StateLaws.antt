@@ -9,7 +9,6 @@ use mathlib.Core.Logic.{_≢_}
 use Prim.Native.Nat.{ℕ, _≤_, _<_}
 use lib.ListN.{replicate}
 use borrow.Author.Tests.{leb-true, ltb-true, ltb-false}
-use Rattle.words.specs.Choice.{_and_}
 use Rattle.words.proofs.ChoiceLaws.{and-left, and-right}
 use Rattle.words.proofs.FrameLaws.{count-putWord, count-zeroFrame, count-copyFrame, framed-putWord, framed-zeroFrame, framed-copyFrame}
 use Rattle.words.proofs.FrameLaws.{word-outside, word-past, word-put-same, word-put-other-frame, word-put-other-index, word-zero-same}
@@ -19,7 +18,8 @@ use Rattle.entries.specs.declared.entry.Entry.{Entry}
 use Rattle.entries.specs.declared.entry.Decoded.the-variants.{Good}
 use Rattle.entries.proofs.TableLaws.{covered-put, whole-put, entry-put-same, entry-put-other, put-same, entry-good, entry-empty}
 use Rattle.entries.proofs.Tells.{Tells, tells}
-use Rattle.rules.specs.State.{State, state, N, M, sized, covers, entryAt, wordAt, differingAt, withEntry, withWord, withZeros, withCopy}
+use Rattle.rules.specs.State.{State, state, N, M, sized, covers, entryAt, wordAt, differingAt, withEntry, withWord, withZeros}
+use Rattle.rules.specs.State.{withCopy}
 
 -- ---- sizes
 pub record Sizes (s : State) : Type 0 where

@@ -1,21 +1,21 @@
 -- What any call does to the places of a guest, from a sound state: by the call's own case, and a refused call does nothing.
 -- Assumes nothing.
-use mathlib.Core.Path.{_≡_, refl, sym, _∙_}
+use mathlib.Core.Path.{_≡_, refl, sym}
 use mathlib.Core.Bool.{Bool, true, false, false≢true}
 use Prim.Native.Nat.{ℕ}
 use Rattle.words.specs.Choice.{pick}
 use Rattle.words.proofs.ChoiceLaws.{pick-true, pick-false}
-use Rattle.entries.specs.Entry.{frameOf, isGuest, isOwned}
+use Rattle.entries.specs.Entry.{isGuest}
 use Rattle.rules.specs.Answers.{Told, refused, done, none, closed, opened, already, word, count, Outcome}
 use Rattle.rules.specs.Calls.{Call, RMPUPDATE, PVALIDATE, PFIX, PMERGE, PUNMERGE, PUNFIX, READ, WRITE, CENSUS, step}
-use Rattle.rules.specs.Census.{census}
 use Rattle.rules.specs.History.{Event, opens, closes, reads, writes, neither, byAnswer, eventOf}
 use Rattle.rules.specs.State.{State}
 use Rattle.rules.proofs.AccessChanges.{ReadPlace, read-of-place, read-change, write-change}
 use Rattle.rules.proofs.AssignmentChanges.{update-change, validate-change}
 use Rattle.rules.proofs.Changes.{Change}
 use Rattle.rules.proofs.MergingChanges.{fix-change, merge-change, unmerge-change, unfix-change}
-use Rattle.rules.proofs.Passed.{rmpupdate-cases, pvalidate-cases, pfix-cases, pmerge-cases, punmerge-cases, punfix-cases, read-cases}
+use Rattle.rules.proofs.Passed.{rmpupdate-cases, pvalidate-cases, pfix-cases, pmerge-cases, punmerge-cases, punfix-cases}
+use Rattle.rules.proofs.Passed.{read-cases}
 use Rattle.rules.proofs.Passed.{write-cases}
 use Rattle.rules.proofs.Sound.{Sound}
 use Rattle.rules.proofs.Steps.{census-keeps}
@@ -117,7 +117,8 @@ read-place s (PMERGE caller hpa1 hpa2) guest gpa index value = no-read _ guest g
 read-place s (PUNMERGE caller hpa1 hpa2 asid) guest gpa index value = no-read _ guest gpa index value refl
 read-place s (PUNFIX caller hpa) guest gpa index value = no-read _ guest gpa index value refl
 read-place s (READ caller at hpa gtype ntype i) guest gpa index value =
-    read-cases (λ o. eventOf (READ caller at hpa gtype ntype i) (o .told) ≡ reads guest gpa index value → ReadPlace s guest gpa index value) s
+    read-cases (λ o. eventOf (READ caller at hpa gtype ntype i) (o .told) ≡ reads guest gpa index value → ReadPlace s guest gpa index value)
+    s
     (λ n why. no-read _ guest gpa index value (rw (refused-event (READ caller at hpa gtype ntype i) n)))
     caller at hpa gtype ntype i
     (λ p. read-of-place s caller at hpa gtype ntype i p guest gpa index value)

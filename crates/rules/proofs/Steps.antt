@@ -16,7 +16,8 @@ use Rattle.rules.specs.Calls.{Call, RMPUPDATE, PVALIDATE, PFIX, PMERGE, 
 use Rattle.rules.specs.Census.{census}
 use Rattle.rules.specs.Merging.{fixing, merging, unmerging, unfixing}
 use Rattle.rules.specs.State.{State, entryAt, withZeros}
-use Rattle.rules.proofs.Passed.{rmpupdate-cases, pvalidate-cases, pfix-cases, pmerge-cases, punmerge-cases, punfix-cases, read-cases}
+use Rattle.rules.proofs.Passed.{rmpupdate-cases, pvalidate-cases, pfix-cases, pmerge-cases, punmerge-cases, punfix-cases}
+use Rattle.rules.proofs.Passed.{read-cases}
 use Rattle.rules.proofs.Passed.{write-cases, census-cases}
 use Rattle.rules.proofs.Reason.{Reason}
 use Rattle.rules.proofs.StateLaws.{same-entry, SameSize, size-refl, size-trans, size-entry, size-word, size-zeros, size-copy}

@@ -3,7 +3,7 @@
 -- Assumes nothing.
 use mathlib.Core.Path.{_≡_, refl, sym, _∙_}
 use mathlib.Core.Bool.{Bool, true, false, false≢true}
-use mathlib.Core.Logic.{_≢_, _⊎_, inl, inr, ⊎-elim}
+use mathlib.Core.Logic.{_≢_, ⊎-elim}
 use Prim.Native.Nat.{ℕ, _+_, _<_}
 use native.Mathlib.Omega.{arith}
 use lib.Dec.{eqb}
@@ -14,12 +14,12 @@ use Rattle.entries.specs.Entry.{bit}
 use Rattle.entries.specs.declared.entry.Entry.{Entry}
 use Rattle.entries.specs.declared.entry.Decoded.the-variants.{Good}
 use Rattle.rules.specs.Census.{Holding, holds, nothing, holding}
-use Rattle.rules.specs.History.{Event, reads, neither, written}
+use Rattle.rules.specs.History.{reads, neither, written}
 use Rattle.rules.specs.State.{State, N, entryAt, wordAt}
 use Rattle.rules.proofs.Changes.{weight, held, opening, closing, Whence, old, Change}
 use Rattle.rules.proofs.Holdings.{of-another, of-its-own}
 use Rattle.rules.proofs.PlaceLaws.{holding-inside}
-use Rattle.rules.proofs.Sums.{sum, sum-same, sum-one, sum-two}
+use Rattle.rules.proofs.Sums.{sum-same, sum-one, sum-two}
 
 -- a frame that is nothing to the guest is none of its places, and weighs nothing; a frame is its place at one address
 pub place-apart : (s : State) (guest gpa f p : ℕ) → holding s guest f ≡ holds gpa → holding s guest p ≡ nothing → f ≢ p

@@ -4,7 +4,8 @@ use mathlib.Core.Path.{_≡_, refl}
 use mathlib.Core.List.{map}
 use Rattle.rules.specs.Calls.{step}
 use Rattle.rules.specs.Census.{placeIn, placesBelow, places}
-use Rattle.rules.specs.Examples.{Example, blank, page, pageOfTwo, owned, unopened, lone, apart, fixedPage, unfixedPage, mergedPage, leafTaken}
+use Rattle.rules.specs.Examples.{Example, blank, page, pageOfTwo, owned, unopened, lone, apart, fixedPage, unfixedPage, mergedPage}
+use Rattle.rules.specs.Examples.{leafTaken}
 use Rattle.rules.specs.Examples.{examples}
 use Rattle.rules.specs.Examples.{Placed, placeExamples}
 use Rattle.rules.proofs.Computed.{computed}
