@@ -1,9 +1,15 @@
--- The definitions give the worked output of 01 for its worked script: all twenty answers, computed.
+-- The definitions give the worked output of 01 for its worked script, all twenty answers, and the events that demand 3 counts: computed.
 -- Assumes nothing.
 use mathlib.Core.Path.{_≡_, refl}
+use mathlib.Core.List.{map}
 use Rattle.rules.proofs.Computed.{computed}
-use Rattle.worked.specs.Script.{start, answers, script, output}
+use Rattle.rules.specs.History.{Made, history, emptyTable, byAnswer, eventOf, event}
+use Rattle.worked.specs.Script.{start, script, output, events}
 
-pub as-printed : answers start script ≡ output
-unfolding computed start answers script output
+pub as-printed : map (λ (m : Made). m .told) (history start script) ≡ output
+unfolding computed history emptyTable start script output
 as-printed = refl
+
+pub as-counted : map event (history start script) ≡ events
+unfolding computed history emptyTable byAnswer eventOf event start script events
+as-counted = refl

@@ -1,18 +1,15 @@
--- 01, "The script program": the worked script, as calls, and its worked output, as answers, both in the paper's order.
+-- 01, "The script program": the worked script, as calls, and its worked output, as answers, both in the paper's order; and what each of
+-- the calls was to a guest, as demand 3 counts it.
 use mathlib.Core.List.{List, [], _∷_}
 use lib.ListN.{replicate}
 use Rattle.rules.specs.Answers.{Told, refused, done, none, closed, opened, word, count}
-use Rattle.rules.specs.Calls.{Call, RMPUPDATE, PVALIDATE, PFIX, PMERGE, PUNMERGE, PUNFIX, READ, WRITE, CENSUS, step}
-use Rattle.rules.specs.State.{State, state}
+use Rattle.rules.specs.Calls.{Call, RMPUPDATE, PVALIDATE, PFIX, PMERGE, PUNMERGE, PUNFIX, READ, WRITE, CENSUS}
+use Rattle.rules.specs.History.{Event, opens, closes, reads, writes, neither, emptyTable}
+use Rattle.rules.specs.State.{State}
 
 -- "an empty table with N = 8, M = 10 and zeroed memory"
 unfoldable pub start : State
-start = state (replicate 16 0) (replicate 5120 0)
-
--- the answers to a list of calls, each made on table and memory as the call before left them
-unfoldable pub answers : State → List Call → List Told
-answers s [] = []
-answers s (call ∷ calls) = step s call .told ∷ answers (step s call .after) calls
+start = emptyTable 16 (replicate 5120 0)
 
 unfoldable pub script : List Call
 script =
@@ -60,4 +57,29 @@ output =
     ∷ count 0x1
     ∷ closed 0x7 0x50000
     ∷ refused 9
+    ∷ []
+
+-- openings, closings, and accepted private or mergeable reads and writes: guests, addresses, frame or word index, and value
+unfoldable pub events : List Event
+events =
+    neither
+    ∷ opens 0x7 0x50000 0x1
+    ∷ writes 0x7 0x50000 0x3 0x2a
+    ∷ neither
+    ∷ opens 0x9 0x60000 0x2
+    ∷ writes 0x9 0x60000 0x3 0x2a
+    ∷ neither
+    ∷ neither
+    ∷ neither
+    ∷ reads 0x9 0x60000 0x3 0x2a
+    ∷ neither
+    ∷ neither
+    ∷ neither
+    ∷ neither
+    ∷ neither
+    ∷ writes 0x7 0x50000 0x3 0x2b
+    ∷ reads 0x9 0x60000 0x3 0x2a
+    ∷ neither
+    ∷ closes 0x7 0x50000
+    ∷ neither
     ∷ []
