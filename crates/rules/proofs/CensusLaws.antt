@@ -1,21 +1,31 @@
--- A census in a sound state answers how many places the guest has, since no frame fails; and no guest has more places than the table has
--- frames, since a frame is one place or none.
+-- A census in a sound state answers how many places the guest has, since no frame fails; these are its places at all addresses together,
+-- since a place is at one address; and no guest has more of them than the table has frames, since a frame is one place or none.
 -- Assumes nothing.
-use mathlib.Core.Path.{_≡_, refl}
+use mathlib.Core.Path.{_≡_, refl, sym, _∙_}
 use mathlib.Core.Bool.{Bool, true, false}
-use Prim.Native.Nat.{ℕ, zero, suc, _+_, _≤_}
+use mathlib.Core.Logic.{_≢_}
+use Prim.Native.Nat.{ℕ, zero, suc, _+_, _≤_, _<_}
 use native.Mathlib.Nat.{le-refl}
 use native.Mathlib.Omega.{arith}
+use lib.Dec.{eqb}
+use borrow.Author.Tests.{eq-eqb, ne-eqb}
 use Rattle.words.specs.Choice.{pick}
-use Rattle.entries.specs.Entry.{bit, isGuest}
+use Rattle.words.proofs.ChoiceLaws.{pick-true, pick-false}
+use Rattle.entries.specs.Entry.{bit, isGuest, isAddress}
+use Rattle.entries.proofs.LeafLaws.{address-small}
+use Rattle.entries.proofs.Tells.{false-not-true}
 use Rattle.rules.specs.Answers.{count, outcome, settle, unless}
-use Rattle.rules.specs.Census.{Holding, holds, nothing, fails, holding, total, counted, tally, reported, census}
+use Rattle.rules.specs.Balance.{sum, overAddresses}
+use Rattle.rules.specs.Census.{Holding, holds, nothing, fails, holding, places, total, counted, tally, reported}
+use Rattle.rules.specs.Census.{census}
 use Rattle.rules.specs.State.{State, N, sized}
 use Rattle.rules.proofs.Changes.{weight, held}
+use Rattle.rules.proofs.Holdings.{holding-address}
 use Rattle.rules.proofs.Never.{sound-faultless}
+use Rattle.rules.proofs.PlaceLaws.{places-are}
 use Rattle.rules.proofs.Reason.{holding-fails}
 use Rattle.rules.proofs.Sound.{Sound}
-use Rattle.rules.proofs.Sums.{sum}
+use Rattle.rules.proofs.Sums.{sum-same, sum-none, sum-single, sum-swap}
 
 -- ---- no more places than frames
 sum-most : (t : ℕ → ℕ) (n : ℕ) → ((i : ℕ) → t i ≤ 1) → sum t n ≤ n
@@ -23,7 +33,7 @@ unfolding sum
 sum-most t zero h = omega arith
 sum-most t (suc n) h = omega (arith, sum-most t n h, h n)
 
-bit-most : (b : Bool) → bit b ≤ 1
+pub bit-most : (b : Bool) → bit b ≤ 1
 unfolding bit pick
 bit-most true = omega arith
 bit-most false = omega arith
@@ -56,3 +66,41 @@ module _ (s : State) (sound : Sound s) (guest : ℕ) where
   pub census-answered : sized s ≡ true → isGuest guest ≡ true → census s guest ≡ outcome (count (held (λ gpa. true) s guest)) s
   unfolding census settle unless reported held pick
   census-answered size is-guest = rw (size, is-guest, tally-total (N s) (le-refl _))
+
+-- ---- the places at all addresses together
+-- what is no address has none of them
+unplaced : (h : Holding) (gpa : ℕ) → h ≢ holds gpa → weight (λ at. eqb at gpa) h ≡ 0
+unfolding weight bit
+unplaced (holds here) gpa other = pick-false _ _ (ne-eqb here gpa (λ e. other (rw e)))
+unplaced nothing gpa other = refl
+unplaced (fails number) gpa other = refl
+
+pub no-place : (s : State) (guest gpa : ℕ) → isAddress gpa ≡ false → places s guest gpa ≡ 0
+unfolding held
+no-place s guest gpa none =
+    places-are s guest gpa
+    ∙ sum-none _ (N s) (λ f h. unplaced _ gpa (λ k. false-not-true none (holding-address s guest gpa f k)))
+
+weight-over :
+    (h : Holding) (b : ℕ) → ((gpa : ℕ) → h ≡ holds gpa → gpa < b)
+    → sum (λ gpa. weight (λ at. eqb at gpa) h) b ≡ weight (λ gpa. true) h
+unfolding weight bit pick
+weight-over (holds here) b below =
+    sum-single (λ gpa. bit (eqb here gpa)) here b (below here refl) (λ gpa other. pick-false _ _ (ne-eqb here gpa (λ e. other (sym e))))
+    ∙ pick-true _ _ (eq-eqb here here refl)
+weight-over nothing b below = sum-none (λ gpa. 0) b (λ gpa h. refl)
+weight-over (fails number) b below = sum-none (λ gpa. 0) b (λ gpa h. refl)
+
+-- below any bound that all of them keep: counted by addresses or by frames
+places-below :
+    (s : State) (guest b : ℕ) → ((f gpa : ℕ) → holding s guest f ≡ holds gpa → gpa < b)
+    → sum (places s guest) b ≡ held (λ gpa. true) s guest
+unfolding held
+places-below s guest b below =
+    sum-same (λ gpa. held (λ at. eqb at gpa) s guest) (places s guest) b (λ gpa h. places-are s guest gpa)
+    ∙ sum-swap (λ gpa f. weight (λ at. eqb at gpa) (holding s guest f)) b (N s)
+    ∙ sum-same (λ f. weight (λ gpa. true) (holding s guest f)) _ (N s) (λ f h. weight-over (holding s guest f) b (below f))
+
+pub places-together : (s : State) (guest : ℕ) → overAddresses (places s guest) ≡ held (λ gpa. true) s guest
+unfolding overAddresses
+places-together s guest = places-below s guest _ (λ f gpa h. address-small gpa (holding-address s guest gpa f h))

@@ -6,10 +6,10 @@ use Prim.Native.Nat.{ℕ, _+_, _≤_}
 use lib.Dec.{eqb}
 use Rattle.words.specs.Choice.{_and_}
 use Rattle.entries.specs.Entry.{bit}
+use Rattle.rules.specs.Balance.{sum}
 use Rattle.rules.specs.Census.{Holding, holds, nothing, fails, holding, places}
 use Rattle.rules.specs.History.{Event, opens, closes, reads, writes, neither, written}
 use Rattle.rules.specs.State.{State, N, wordAt}
-use Rattle.rules.proofs.Sums.{sum}
 
 -- a place at an address of some kind, as 1; and how many a guest has
 unfoldable pub weight : (ℕ → Bool) → Holding → ℕ

@@ -1,24 +1,25 @@
--- What a frame is to a guest, by its entry: a fixed page by the word consulted, any other by its owner and VALIDATED alone; and that it
--- stays where the entry and that word stay.
+-- What a frame is to a guest, by its entry: a fixed page by the word consulted, any other by its owner and VALIDATED alone; that it stays
+-- where the entry and that word stay; and that a place is at an address.
 -- Assumes nothing.
 use mathlib.Core.Path.{_≡_, refl, sym, _∙_}
-use mathlib.Core.Bool.{Bool, true, false}
+use mathlib.Core.Bool.{Bool, true, false, false≢true}
 use mathlib.Core.Logic.{_≢_, ⊎-elim}
 use Prim.Native.Nat.{ℕ}
 use lib.Dec.{eqb}
 use borrow.Author.Tests.{eq-eqb, ne-eqb}
 use Rattle.words.specs.Choice.{pick, _and_}
 use Rattle.words.proofs.ChoiceLaws.{true-or-false, pick-true, pick-false, and-not}
-use Rattle.entries.specs.Entry.{isOwned}
+use Rattle.entries.specs.Entry.{isAddress, isOwned}
 use Rattle.entries.specs.declared.entry.Entry.{Entry}
 use Rattle.entries.specs.declared.entry.Decoded.{Decoded}
 use Rattle.entries.specs.declared.entry.Decoded.the-variants.{Good, Bad}
-use Rattle.entries.specs.declared.leaf.LeafWord.the-variants.{Absent, Present}
+use Rattle.entries.specs.declared.leaf.LeafWord.{LeafWord}
+use Rattle.entries.specs.declared.leaf.LeafWord.the-variants.{Absent, Present, Misshapen}
 use Rattle.entries.proofs.Tells.{false-not-true}
 use Rattle.rules.specs.Census.{Holding, holds, nothing, inLeaf, inEntry, holding}
 use Rattle.rules.specs.Leaves.{isLeaf, consulted}
 use Rattle.rules.specs.State.{State, entryAt}
-use Rattle.rules.proofs.Leaves.{leaf-good, owned-no-leaf}
+use Rattle.rules.proofs.Leaves.{consulted-address, leaf-good, owned-no-leaf}
 use Rattle.rules.proofs.StateLaws.{entry-tells}
 
 module _ (s : State) (guest f : ℕ) (e : Entry) (here : entryAt s f ≡ Good e) where
@@ -80,3 +81,26 @@ holding-same s u guest f entries words = rw entries (go (entryAt s f) refl)
     go : (d : Decoded) → entryAt s f ≡ d → inEntry u guest d ≡ inEntry s guest d
     go (Good e) here = page e (e .fixed) _ (words e here)
     go Bad here = refl
+
+-- ---- a place is at an address
+present-only : (w : LeafWord) (gpa : ℕ) → inLeaf w ≡ holds gpa → w ≡ Present gpa
+unfolding inLeaf
+present-only Absent gpa h = absurd (false≢true (cc))
+present-only (Present at) gpa h = let same : at ≡ gpa = cc in rw same
+present-only Misshapen gpa h = absurd (false≢true (cc))
+
+own-only : (t : Bool) (at gpa : ℕ) → pick t (holds at) nothing ≡ holds gpa → at ≡ gpa
+unfolding pick
+own-only true at gpa h = cc
+own-only false at gpa h = absurd (false≢true (cc))
+
+pub holding-address : (s : State) (guest gpa f : ℕ) → holding s guest f ≡ holds gpa → isAddress gpa ≡ true
+unfolding holding inEntry
+holding-address s guest gpa f = go (entryAt s f) refl
+  where
+    go : (d : Decoded) → entryAt s f ≡ d → inEntry s guest d ≡ holds gpa → isAddress gpa ≡ true
+    go (Good e) here h =
+        ⊎-elim (λ fixed. consulted-address s e guest gpa (present-only _ gpa (sym (pick-true _ _ fixed) ∙ h)))
+        (λ unfixed. rw (own-only _ _ gpa (sym (pick-false _ _ unfixed) ∙ h)) at (entry-tells s f e here .address-fits))
+        (true-or-false (e .fixed))
+    go Bad here h = absurd (false≢true (cc))

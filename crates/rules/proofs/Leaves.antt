@@ -15,8 +15,8 @@ use Rattle.entries.specs.Leaf.{leafWord}
 use Rattle.entries.specs.declared.entry.Entry.{Entry}
 use Rattle.entries.specs.declared.entry.Decoded.{Decoded}
 use Rattle.entries.specs.declared.entry.Decoded.the-variants.{Good, Bad}
-use Rattle.entries.specs.declared.leaf.LeafWord.the-variants.{Absent, Misshapen}
-use Rattle.entries.proofs.LeafLaws.{address-whole}
+use Rattle.entries.specs.declared.leaf.LeafWord.the-variants.{Absent, Present, Misshapen}
+use Rattle.entries.proofs.LeafLaws.{address-whole, present-address}
 use Rattle.entries.proofs.Tells.{owned-kinds}
 use Rattle.rules.specs.Leaves.{leafFrame, isLeaf, consulted, namesLeaf, leafInUse, isSharedBy, stillShared}
 use Rattle.rules.specs.State.{State, N, entryAt, wordAt}
@@ -41,6 +41,11 @@ module _ (s : State) (page : Entry) (guest : ℕ) where
       go : (t : Bool) → (pick t (leafWord (wordAt s (leafFrame page) guest)) Misshapen ≡ Misshapen → ⊥) → t ≡ true
       go true h = refl
       go false h = absurd (h (pick-false _ _ refl))
+
+  pub consulted-address : (gpa : ℕ) → consulted s page guest ≡ Present gpa → isAddress gpa ≡ true
+  consulted-address gpa h =
+      let leaf = is-a-leaf (λ k. absurd (false≢true (cc))) in
+      present-address _ gpa (sym (consulted-is leaf) ∙ h)
 
 -- ---- a LEAF is a good entry of its own type, and no frame of another type
 pub leaf-good : (d : Decoded) → isLeaf d ≡ true → (e : Entry) × ((d ≡ Good e) × (e .kind ≡ LEAF))

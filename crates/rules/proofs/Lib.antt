@@ -7,6 +7,7 @@ pub mod Chain
 pub mod Changes
 pub mod Computed
 pub mod Consulted
+pub mod Corollaries
 pub mod Effects
 pub mod History
 pub mod HistoryFrom

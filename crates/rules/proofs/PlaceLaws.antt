@@ -13,12 +13,13 @@ use Rattle.words.proofs.ChoiceLaws.{pick-true}
 use Rattle.entries.specs.Entry.{bit}
 use Rattle.entries.specs.declared.entry.Decoded.{Decoded}
 use Rattle.entries.specs.declared.entry.Decoded.the-variants.{Good, Bad}
+use Rattle.rules.specs.Balance.{sum}
 use Rattle.rules.specs.Census.{Holding, holds, nothing, fails, inEntry, holding, placeIn, placesBelow, places}
 use Rattle.rules.specs.History.{Event, opens, closes, reads, writes, neither, isOpening, isClosing}
 use Rattle.rules.specs.State.{State, N, entryAt}
 use Rattle.rules.proofs.Changes.{weight, held, opening, closing, Change}
 use Rattle.rules.proofs.StateLaws.{entry-inside}
-use Rattle.rules.proofs.Sums.{sum, sum-term, sum-pair}
+use Rattle.rules.proofs.Sums.{sum-term, sum-pair}
 
 -- ---- the claim's counts, and the counts of changes
 place-is : (h : Holding) (gpa : ℕ) → placeIn h gpa ≡ weight (λ at. eqb at gpa) h

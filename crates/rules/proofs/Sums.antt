@@ -1,5 +1,5 @@
--- Sums over the first n frames, by induction on n: of two that differ in no term, in one, or in two; and that a term, or two, are no
--- more than the whole.
+-- Sums of the first n terms, by induction on n: of two that differ in no term, in one, or in two; that a term, or two, are no more than
+-- the whole, and one alone is the whole; two added term by term; and a sum of sums, taken the other way round.
 -- Assumes nothing.
 use mathlib.Core.Path.{_≡_, refl}
 use mathlib.Core.Logic.{_≢_}
@@ -10,10 +10,7 @@ use lib.Dec.{eqb}
 use borrow.Author.Tests.{eq-eqb, ne-eqb}
 use Rattle.words.specs.Choice.{pick}
 use Rattle.words.proofs.ChoiceLaws.{pick-true, pick-false}
-
-unfoldable pub sum : (ℕ → ℕ) → ℕ → ℕ
-sum t zero = 0
-sum t (suc n) = sum t n + t n
+use Rattle.rules.specs.Balance.{sum}
 
 -- ---- two sums
 pub sum-same : (t u : ℕ → ℕ) (n : ℕ) → ((f : ℕ) → f < n → u f ≡ t f) → sum u n ≡ sum t n
@@ -85,3 +82,18 @@ sum-pair t p q (suc n) h l apart =
         | no k ↦ let below = sum-pair t p q n (omega (arith, e)) (omega (arith, k)) apart in omega arith
       ]
     ]
+
+-- where no other term counts, the sum is one term
+pub sum-single : (t : ℕ → ℕ) (p n : ℕ) → p < n → ((f : ℕ) → f ≢ p → t f ≡ 0) → sum t n ≡ t p
+sum-single t p n h none = omega (arith, sum-one (λ f. 0) t p n h none, sum-none (λ f. 0) n (λ f l. refl))
+
+-- ---- sums of sums
+pub sum-add : (t u v : ℕ → ℕ) (n : ℕ) → ((f : ℕ) → t f + u f ≡ v f) → sum t n + sum u n ≡ sum v n
+unfolding sum
+sum-add t u v zero add = refl
+sum-add t u v (suc n) add = let below = sum-add t u v n add in omega (arith, add n)
+
+pub sum-swap : (t : ℕ → ℕ → ℕ) (m n : ℕ) → sum (λ a. sum (t a) n) m ≡ sum (λ f. sum (λ a. t a f) m) n
+unfolding sum
+sum-swap t m zero = sum-none (λ a. 0) m (λ a h. refl)
+sum-swap t m (suc n) = let below = sum-swap t m n in omega (arith, sum-add (λ a. sum (t a) n) (λ a. t a n) _ m (λ a. refl))

@@ -3,6 +3,7 @@ pub mod Access
 pub mod Answers
 pub mod Arguments
 pub mod Assignment
+pub mod Balance
 pub mod Calls
 pub mod Census
 pub mod Examples

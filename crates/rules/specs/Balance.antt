@@ -1,0 +1,36 @@
+-- 01, CENSUS, and "demand 3 ties places to openings and closings": the census of a guest after a list of calls, as its places at
+-- all addresses together.
+use mathlib.Core.Path.{_≡_}
+use mathlib.Core.Bool.{false}
+use mathlib.Core.List.{List}
+use Prim.Native.Nat.{ℕ, zero, suc, _+_, _≤_}
+use Rattle.entries.specs.Entry.{addressLimit, isAddress}
+use Rattle.rules.specs.Answers.{count, outcome}
+use Rattle.rules.specs.Calls.{Call}
+use Rattle.rules.specs.Census.{places, census}
+use Rattle.rules.specs.History.{history, finally, openings, closings}
+use Rattle.rules.specs.State.{State, N}
+
+-- the first n terms together
+unfoldable pub sum : (ℕ → ℕ) → ℕ → ℕ
+sum t zero = 0
+sum t (suc n) = sum t n + t n
+
+-- a sum over all addresses: they are below 2^52, and a number that is no address has no place, opening or closing (`nowhere-else`)
+unfoldable pub overAddresses : (ℕ → ℕ) → ℕ
+overAddresses t = sum t addressLimit
+
+pub record CensusKept (s : State) (calls : List Call) (guest : ℕ) : Type 0 where
+  -- "Answer: the number of places of this guest."
+  pub answered :
+      census (finally s calls) guest ≡ outcome (count (overAddresses (places (finally s calls) guest))) (finally s calls)
+  -- "The census of a guest is never more than N."
+  pub bounded : overAddresses (places (finally s calls) guest) ≤ N (finally s calls)
+  -- "places plus closings are exactly the openings", at all addresses together
+  pub balanced :
+      overAddresses (places (finally s calls) guest) + overAddresses (closings (history s calls) guest)
+      ≡ overAddresses (openings (history s calls) guest)
+  -- what is no address adds nothing to these sums, and nothing is left out of them
+  pub nowhere-else :
+      (gpa : ℕ) → isAddress gpa ≡ false
+      → (places (finally s calls) guest gpa ≡ 0) × (closings (history s calls) guest gpa ≡ 0) × (openings (history s calls) guest gpa ≡ 0)
