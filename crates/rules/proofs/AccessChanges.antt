@@ -15,10 +15,10 @@ use Rattle.entries.proofs.Tells.{in-range, false-not-true}
 use Rattle.rules.specs.Answers.{done, word}
 use Rattle.rules.specs.Calls.{READ, WRITE}
 use Rattle.rules.specs.Census.{holds, nothing, holding, places}
-use Rattle.rules.specs.History.{reads, writes, neither, byAnswer, eventOf, written}
+use Rattle.rules.specs.History.{reads, writes, neither, byAnswer, eventOf, isOpening, isClosing, written}
 use Rattle.rules.specs.State.{State, wordAt, withWord}
 use Rattle.rules.proofs.ArgumentLaws.{access-tells, guest-access}
-use Rattle.rules.proofs.Changes.{opening, closing, old, Change}
+use Rattle.rules.proofs.Changes.{old, Change}
 use Rattle.rules.proofs.Consulted.{written-consulted}
 use Rattle.rules.proofs.Holdings.{present-there, holding-same, of-another, of-its-own, nobodys}
 use Rattle.rules.proofs.MergingChanges.{shared-unowned}
@@ -26,7 +26,7 @@ use Rattle.rules.proofs.Passed.{Way, above, shared, own, merged, Access
 use Rattle.rules.proofs.PlaceLaws.{holding-inside, one-place}
 use Rattle.rules.proofs.Sound.{Sound}
 use Rattle.rules.proofs.StateLaws.{size-word, entry-tells, entry-after-word, word-after-word, word-elsewhere, word-beside}
-use Rattle.rules.proofs.Ways.{place-apart, one-address, held-same, stays, unchanged, only-read}
+use Rattle.rules.proofs.Ways.{place-apart, one-address, places-same, stays, unchanged, only-read}
 
 -- ---- READ
 pub read-change :
@@ -180,10 +180,10 @@ module _ (s : State) (sound : Sound s) (caller gpa hpa gtype ntype index value :
             (same-or-not index i)
 
     private-change : Change s writtenNow (writes caller gpa index value) guest
-    unfolding opening closing
+    unfolding isOpening isClosing
     private-change =
         record {
-          balance = λ among. rw (held-same s writtenNow guest (size-word s _ index value .same-N) among still);
+          balance = λ at. rw (places-same s writtenNow guest (size-word s _ index value .same-N) still at);
           whence = λ at f most h. let was = sym (still f) ∙ h in old f was (λ i. words-after at f i most was);
         }
 

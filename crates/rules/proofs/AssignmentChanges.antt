@@ -1,26 +1,27 @@
 -- RMPUPDATE closes the place that its frame was, if it was one, as its answer says, and PVALIDATE opens one; no other frame changes.
 -- Assumes nothing.
 use mathlib.Core.Path.{_≡_, refl, sym, _∙_}
-use mathlib.Core.Bool.{Bool, true, false}
+use mathlib.Core.Bool.{true, false}
 use mathlib.Core.Logic.{_≢_, ⊎-elim}
 use Prim.Native.Nat.{ℕ}
 use native.Mathlib.Omega.{arith}
+use Rattle.words.specs.Choice.{pick}
 use Rattle.words.proofs.ChoiceLaws.{same-or-not, true-or-false, pick-true, pick-false}
-use Rattle.entries.specs.Entry.{frameOf, entry}
+use Rattle.entries.specs.Entry.{frameOf, entry, bit}
 use Rattle.entries.specs.declared.entry.Entry.{Entry}
 use Rattle.rules.specs.Assignment.{assigning, updateAnswer, validating, validateAnswer}
 use Rattle.rules.specs.Calls.{RMPUPDATE, PVALIDATE}
-use Rattle.rules.specs.Census.{holds, nothing, holding}
-use Rattle.rules.specs.History.{opens, closes, neither, byAnswer, eventOf, written}
+use Rattle.rules.specs.Census.{holds, nothing, holding, placeIn}
+use Rattle.rules.specs.History.{opens, closes, neither, byAnswer, eventOf, isOpening, isClosing, written}
 use Rattle.rules.specs.State.{State}
-use Rattle.rules.proofs.Changes.{weight, opening, closing, Whence, old, new, Change}
+use Rattle.rules.proofs.Changes.{Whence, old, new, Change}
 use Rattle.rules.proofs.Consulted.{assigned-consulted, validated-consulted}
 use Rattle.rules.proofs.Effects.{Assigns, assigning-does, Validates, validating-does}
 use Rattle.rules.proofs.Holdings.{holding-same, unopened, of-another, of-its-own}
 use Rattle.rules.proofs.Passed.{Updated, Validated}
 use Rattle.rules.proofs.Sound.{Sound}
 use Rattle.rules.proofs.Steps.{validated-again}
-use Rattle.rules.proofs.Ways.{place-apart, one-address, nothing-weighs, page-weight, held-one, stays, unchanged}
+use Rattle.rules.proofs.Ways.{place-apart, one-address, nothing-counts, page-counts, places-one, stays, unchanged}
 
 -- ---- RMPUPDATE
 module _ (s : State) (sound : Sound s) (caller hpa gpa asid kind : ℕ) (before : Entry) (p : Updated s caller hpa gpa asid kind before)
@@ -43,12 +44,12 @@ module _ (s : State) (sound : Sound s) (caller hpa gpa asid kind : ℕ) (before 
 
   -- what it was before is closed, or was nothing
   closed-change : before .validated ≡ true → Change s updated (closes (before .asid) (before .address)) guest
-  unfolding opening closing written
+  unfolding isOpening isClosing written bit pick
   closed-change v =
       record {
-        balance = λ among.
-            let one = held-one s updated guest (update-effect .put .same-size .same-N) among _ (p .inside) update-beside in
-            omega (arith, one, page-weight s guest _ before (p .here) (p .unfixed) v among, nothing-weighs among update-left);
+        balance = λ at.
+            let one = places-one s updated guest (update-effect .put .same-size .same-N) _ (p .inside) update-beside at in
+            omega (arith, one, page-counts s guest _ before (p .here) (p .unfixed) v at, nothing-counts at update-left);
         whence = λ at f most h.
             let off = place-apart updated guest at f _ h update-left in
             old f (sym (update-beside f off) ∙ h) (λ i. update-effect .words f i off);
@@ -99,17 +100,17 @@ module _ (s : State) (sound : Sound s) (caller gpa hpa kind : ℕ) (before : Ent
           rw (own, one-address validated guest _ f gpa at k h (sym here))
 
   opened-change : before .validated ≡ false → Change s validated (opens caller gpa (frameOf hpa)) guest
-  unfolding opening closing entry
+  unfolding isOpening isClosing bit pick entry
   opened-change v =
       record {
-        balance = λ among.
-            let one = held-one s validated guest (validate-effect .put .same-size .same-N) among _ (p .inside) validate-beside in
-            omega (arith, one, page-weight validated guest _ _ (validate-effect .put .here) refl refl among, weightless-before among);
+        balance = λ at.
+            let one = places-one s validated guest (validate-effect .put .same-size .same-N) _ (p .inside) validate-beside at in
+            omega (arith, one, page-counts validated guest _ _ (validate-effect .put .here) refl refl at, nothing-before at);
         whence = λ at f most h. whence-opened at f h;
       }
     where
-      weightless-before : (among : ℕ → Bool) → weight among (holding s guest (frameOf hpa)) ≡ 0
-      weightless-before among = nothing-weighs among (unopened s guest _ before (p .here) (p .unfixed) v)
+      nothing-before : (at : ℕ) → placeIn (holding s guest (frameOf hpa)) at ≡ 0
+      nothing-before at = nothing-counts at (unopened s guest _ before (p .here) (p .unfixed) v)
 
   pub validate-change : Change s validated (eventOf (PVALIDATE caller gpa hpa kind) (validateAnswer before)) guest
   unfolding eventOf byAnswer validateAnswer

@@ -16,10 +16,9 @@ use Rattle.entries.proofs.LeafLaws.{address-small}
 use Rattle.entries.proofs.Tells.{false-not-true}
 use Rattle.rules.specs.Answers.{count, outcome, settle, unless}
 use Rattle.rules.specs.Balance.{sum, overAddresses}
-use Rattle.rules.specs.Census.{Holding, holds, nothing, fails, holding, places, total, counted, tally, reported}
+use Rattle.rules.specs.Census.{Holding, holds, nothing, fails, holding, placeIn, places, total, counted, tally, reported}
 use Rattle.rules.specs.Census.{census}
 use Rattle.rules.specs.State.{State, N, sized}
-use Rattle.rules.proofs.Changes.{weight, held}
 use Rattle.rules.proofs.Holdings.{holding-address}
 use Rattle.rules.proofs.Never.{sound-faultless}
 use Rattle.rules.proofs.PlaceLaws.{places-are}
@@ -38,69 +37,75 @@ unfolding bit pick
 bit-most true = omega arith
 bit-most false = omega arith
 
-weight-most : (among : ℕ → Bool) (h : Holding) → weight among h ≤ 1
-unfolding weight
-weight-most among (holds gpa) = bit-most (among gpa)
-weight-most among nothing = omega arith
-weight-most among (fails number) = omega arith
+-- a place, at whatever address, as 1; and how many a guest has
+unfoldable pub one : Holding → ℕ
+one (holds gpa) = 1
+one nothing = 0
+one (fails number) = 0
 
-pub census-bounded : (among : ℕ → Bool) (s : State) (guest : ℕ) → held among s guest ≤ N s
+unfoldable pub held : State → ℕ → ℕ
+held s guest = sum (λ f. one (holding s guest f)) (N s)
+
+one-most : (h : Holding) → one h ≤ 1
+unfolding one
+one-most (holds gpa) = omega arith
+one-most nothing = omega arith
+one-most (fails number) = omega arith
+
+pub census-bounded : (s : State) (guest : ℕ) → held s guest ≤ N s
 unfolding held
-census-bounded among s guest = sum-most _ (N s) (λ f. weight-most among (holding s guest f))
+census-bounded s guest = sum-most _ (N s) (λ f. one-most (holding s guest f))
 
 -- ---- what a census answers
 counted-total :
-    (m : ℕ) (h : Holding) → ((n : ℕ) → h ≡ fails n → ⊥) → counted (total m) h ≡ total (m + weight (λ gpa. true) h)
-unfolding counted weight bit pick
+    (m : ℕ) (h : Holding) → ((n : ℕ) → h ≡ fails n → ⊥) → counted (total m) h ≡ total (m + one h)
+unfolding counted one
 counted-total m (holds gpa) never = refl
 counted-total m nothing never = let same : m + 0 ≡ m = omega arith in rw same
 counted-total m (fails number) never = absurd (never number refl)
 
 module _ (s : State) (sound : Sound s) (guest : ℕ) where
-  tally-total : (k : ℕ) → k ≤ N s → tally s guest k ≡ total (sum (λ f. weight (λ gpa. true) (holding s guest f)) k)
+  tally-total : (k : ℕ) → k ≤ N s → tally s guest k ≡ total (sum (λ f. one (holding s guest f)) k)
   unfolding tally sum
   tally-total zero below = refl
   tally-total (suc k) below =
       rw (tally-total k (omega arith)) (counted-total _ _ (λ n h. sound-faultless sound (holding-fails s n guest k below h)))
 
-  pub census-answered : sized s ≡ true → isGuest guest ≡ true → census s guest ≡ outcome (count (held (λ gpa. true) s guest)) s
+  pub census-answered : sized s ≡ true → isGuest guest ≡ true → census s guest ≡ outcome (count (held s guest)) s
   unfolding census settle unless reported held pick
   census-answered size is-guest = rw (size, is-guest, tally-total (N s) (le-refl _))
 
 -- ---- the places at all addresses together
 -- what is no address has none of them
-unplaced : (h : Holding) (gpa : ℕ) → h ≢ holds gpa → weight (λ at. eqb at gpa) h ≡ 0
-unfolding weight bit
+unplaced : (h : Holding) (gpa : ℕ) → h ≢ holds gpa → placeIn h gpa ≡ 0
+unfolding placeIn
 unplaced (holds here) gpa other = pick-false _ _ (ne-eqb here gpa (λ e. other (rw e)))
 unplaced nothing gpa other = refl
 unplaced (fails number) gpa other = refl
 
 pub no-place : (s : State) (guest gpa : ℕ) → isAddress gpa ≡ false → places s guest gpa ≡ 0
-unfolding held
 no-place s guest gpa none =
     places-are s guest gpa
     ∙ sum-none _ (N s) (λ f h. unplaced _ gpa (λ k. false-not-true none (holding-address s guest gpa f k)))
 
-weight-over :
-    (h : Holding) (b : ℕ) → ((gpa : ℕ) → h ≡ holds gpa → gpa < b)
-    → sum (λ gpa. weight (λ at. eqb at gpa) h) b ≡ weight (λ gpa. true) h
-unfolding weight bit pick
-weight-over (holds here) b below =
-    sum-single (λ gpa. bit (eqb here gpa)) here b (below here refl) (λ gpa other. pick-false _ _ (ne-eqb here gpa (λ e. other (sym e))))
+one-over : (h : Holding) (b : ℕ) → ((gpa : ℕ) → h ≡ holds gpa → gpa < b) → sum (λ gpa. placeIn h gpa) b ≡ one h
+unfolding placeIn one
+one-over (holds here) b below =
+    sum-single (λ gpa. pick (eqb here gpa) 1 0) here b (below here refl) (λ gpa other. pick-false _ _ (ne-eqb here gpa (λ e. other (sym e))))
     ∙ pick-true _ _ (eq-eqb here here refl)
-weight-over nothing b below = sum-none (λ gpa. 0) b (λ gpa h. refl)
-weight-over (fails number) b below = sum-none (λ gpa. 0) b (λ gpa h. refl)
+one-over nothing b below = sum-none (λ gpa. 0) b (λ gpa h. refl)
+one-over (fails number) b below = sum-none (λ gpa. 0) b (λ gpa h. refl)
 
 -- below any bound that all of them keep: counted by addresses or by frames
 places-below :
     (s : State) (guest b : ℕ) → ((f gpa : ℕ) → holding s guest f ≡ holds gpa → gpa < b)
-    → sum (places s guest) b ≡ held (λ gpa. true) s guest
+    → sum (places s guest) b ≡ held s guest
 unfolding held
 places-below s guest b below =
-    sum-same (λ gpa. held (λ at. eqb at gpa) s guest) (places s guest) b (λ gpa h. places-are s guest gpa)
-    ∙ sum-swap (λ gpa f. weight (λ at. eqb at gpa) (holding s guest f)) b (N s)
-    ∙ sum-same (λ f. weight (λ gpa. true) (holding s guest f)) _ (N s) (λ f h. weight-over (holding s guest f) b (below f))
+    sum-same (λ gpa. sum (λ f. placeIn (holding s guest f) gpa) (N s)) (places s guest) b (λ gpa h. places-are s guest gpa)
+    ∙ sum-swap (λ gpa f. placeIn (holding s guest f) gpa) b (N s)
+    ∙ sum-same (λ f. one (holding s guest f)) _ (N s) (λ f h. one-over (holding s guest f) b (below f))
 
-pub places-together : (s : State) (guest : ℕ) → overAddresses (places s guest) ≡ held (λ gpa. true) s guest
+pub places-together : (s : State) (guest : ℕ) → overAddresses (places s guest) ≡ held s guest
 unfolding overAddresses
 places-together s guest = places-below s guest _ (λ f gpa h. address-small gpa (holding-address s guest gpa f h))

@@ -23,7 +23,6 @@ use Rattle.rules.proofs.History.{empty-sound, no-counter-goes-back}
 use Rattle.rules.proofs.HistoryFrom.{finally-sound}
 use Rattle.rules.proofs.HistoryLists.{cut}
 use Rattle.rules.proofs.Never.{sound-never}
-use Rattle.rules.proofs.PlaceLaws.{places-balance}
 use Rattle.rules.proofs.Sound.{Sound}
 use Rattle.rules.proofs.SoundSteps.{step-sound}
 use Rattle.rules.proofs.StateLaws.{SameSize, size-refl, size-trans}
@@ -67,7 +66,7 @@ no-events s [] guest gpa sound g none = (refl, refl)
 no-events s (call ∷ rest) guest gpa sound g none =
     let after = step s call .after in
     let then = no-events after rest guest gpa (step-sound s call sound) g none in
-    let balance = places-balance (step-change s guest call sound g) gpa in
+    let balance = step-change s guest call sound g .balance gpa in
     omega (arith, balance, one-event (eventOf call (step s call .told)) guest gpa, no-place s guest gpa none, no-place after guest gpa none)
 
 pub census-kept :
@@ -81,7 +80,7 @@ census-kept length memory calls guest size g =
     let whole = places-together end guest in
     record {
       answered = rw whole (census-answered end sound guest (sizes-stay start calls .same-sized ∙ size) g);
-      bounded = rw whole (census-bounded _ end guest);
+      bounded = rw whole (census-bounded end guest);
       balanced = sum-add _ _ _ _ (λ gpa. no-counter-goes-back length memory calls .counted guest gpa g);
       nowhere-else = λ gpa none.
           let events = no-events start calls guest gpa (empty-sound length memory) g none in

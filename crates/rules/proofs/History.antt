@@ -11,10 +11,9 @@ use Rattle.entries.specs.Entry.{entry, zeroEntry}
 use Rattle.entries.specs.declared.entry.Entry.{Entry}
 use Rattle.entries.specs.declared.entry.Decoded.the-variants.{Good}
 use Rattle.entries.proofs.Tells.{false-not-true}
-use Rattle.rules.specs.Census.{nothing, inEntry, holding, places}
+use Rattle.rules.specs.Census.{nothing, inEntry, holding, placeIn, places}
 use Rattle.rules.specs.History.{emptyTable, Demand3}
 use Rattle.rules.specs.State.{N, entryAt}
-use Rattle.rules.proofs.Changes.{weight, held}
 use Rattle.rules.proofs.HistoryFrom.{runs-on}
 use Rattle.rules.proofs.PlaceLaws.{places-are}
 use Rattle.rules.proofs.Sound.{Sound}
@@ -47,7 +46,7 @@ module _ (length : ℕ) (memory : List ℕ) where
   holds-nothing guest f h = rw (empty-entry f h) refl
 
   pub no-place-yet : (guest gpa : ℕ) → places (emptyTable length memory) guest gpa ≡ 0
-  unfolding held weight
+  unfolding placeIn
   no-place-yet guest gpa = places-are (emptyTable length memory) guest gpa ∙ sum-none _ _ (λ f h. rw (holds-nothing guest f h) refl)
 
 pub no-counter-goes-back : Demand3

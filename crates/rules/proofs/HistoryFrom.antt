@@ -2,7 +2,7 @@
 -- an address reads there what it found or wrote. By induction on the calls, from what one call does to the places of a guest (Change).
 -- Assumes nothing.
 use mathlib.Core.Path.{_≡_, refl, sym, _∙_}
-use mathlib.Core.Bool.{Bool, true}
+use mathlib.Core.Bool.{true}
 use mathlib.Core.List.{List, [], _∷_, _++_}
 use Prim.Native.Nat.{ℕ, _+_, _≤_}
 use native.Mathlib.Omega.{arith}
@@ -12,9 +12,9 @@ use Rattle.rules.specs.Census.{holds, holding, places}
 use Rattle.rules.specs.History.{Made, history, finally, Event, opens, reads, event, isOpening, openings, closings}
 use Rattle.rules.specs.History.{written, lastWrite}
 use Rattle.rules.specs.State.{State, wordAt}
-use Rattle.rules.proofs.Changes.{held, Whence, old, new, Change}
-use Rattle.rules.proofs.HistoryLists.{openingsAt, closingsAt, openings-are, closings-are, opens-here, only-opening, Cut, cut}
-use Rattle.rules.proofs.PlaceLaws.{places-are, place-counts, one-place, places-balance}
+use Rattle.rules.proofs.Changes.{Whence, old, new, Change}
+use Rattle.rules.proofs.HistoryLists.{opens-here, only-opening, Cut, cut}
+use Rattle.rules.proofs.PlaceLaws.{place-counts, one-place}
 use Rattle.rules.proofs.Sound.{Sound}
 use Rattle.rules.proofs.SoundSteps.{step-sound}
 use Rattle.rules.proofs.StepChanges.{step-change, read-place}
@@ -36,7 +36,7 @@ module _ {s u : State} {guest : ℕ} (gpa : ℕ) where
   pub kept-opened :
       (frame : ℕ) → Change s u (opens guest gpa frame) guest → places s guest gpa ≡ 0 → Kept u guest gpa (λ i. wordAt s frame i)
   kept-opened frame change vacant =
-      record { single = omega (arith, places-balance change gpa, opens-here guest gpa frame); words = found }
+      record { single = omega (arith, change .balance gpa, opens-here guest gpa frame); words = found }
     where
       go : (f i : ℕ) → Whence s u (opens guest gpa frame) guest gpa f → wordAt u f i ≡ wordAt s frame i
       go f i (old p h same) = let z : ⊥ = omega (arith, place-counts s guest gpa p h) in absurd z
@@ -50,7 +50,7 @@ module _ {s u : State} {guest : ℕ} (gpa : ℕ) where
       {e : Event} {w : ℕ → ℕ} → Change s u e guest → bit (isOpening e guest gpa) ≡ 0 → Kept s guest gpa w
       → Kept u guest gpa (λ i. written e guest gpa i (w i))
   kept-beyond {e} {w} change none kept =
-      record { single = omega (arith, places-balance change gpa, none, kept .single); words = found }
+      record { single = omega (arith, change .balance gpa, none, kept .single); words = found }
     where
       go : (f i : ℕ) → Whence s u e guest gpa f → wordAt u f i ≡ written e guest gpa i (w i)
       go f i (old p h same) = rw (← kept .words p i h) (same i)
@@ -97,23 +97,16 @@ unfolding finally
 finally-sound s [] sound = sound
 finally-sound s (call ∷ rest) sound = finally-sound (step s call .after) rest (step-sound s call sound)
 
--- ---- counts, at the addresses of any kind and at one
-pub held-over :
-    (s : State) (calls : List Call) (guest : ℕ) (among : ℕ → Bool) → Sound s → isGuest guest ≡ true
-    → held among (finally s calls) guest + closingsAt among (history s calls) guest
-    ≡ held among s guest + openingsAt among (history s calls) guest
-unfolding finally history openingsAt closingsAt event
-held-over s [] guest among sound g = refl
-held-over s (call ∷ rest) guest among sound g =
-    let then = held-over (step s call .after) rest guest among (step-sound s call sound) g in
-    omega (arith, step-change s guest call sound g .balance among)
-
+-- ---- counts
 pub places-over :
     (s : State) (calls : List Call) (guest gpa : ℕ) → Sound s → isGuest guest ≡ true
     → places (finally s calls) guest gpa + closings (history s calls) guest gpa
     ≡ places s guest gpa + openings (history s calls) guest gpa
-places-over s calls guest gpa sound g =
-    rw (places-are (finally s calls) guest gpa, places-are s guest gpa, openings-are, closings-are) (held-over s calls guest _ sound g)
+unfolding finally history openings closings event
+places-over s [] guest gpa sound g = refl
+places-over s (call ∷ rest) guest gpa sound g =
+    let then = places-over (step s call .after) rest guest gpa (step-sound s call sound) g in
+    omega (arith, step-change s guest call sound g .balance gpa)
 
 -- ---- words: where no call of the list opens the address
 pub kept-over :

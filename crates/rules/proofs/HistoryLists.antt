@@ -1,40 +1,19 @@
--- Lists of calls as they were made: their openings and closings counted, also at the addresses of any kind, and a list cut at one of its
+-- Lists of calls as they were made: their openings counted, and a list cut at one of its
 -- calls, which got what the calls before it left. By induction on the calls.
 -- Assumes nothing.
 use mathlib.Core.Path.{_≡_, refl}
-use mathlib.Core.Bool.{Bool, false≢true}
+use mathlib.Core.Bool.{false≢true}
 use mathlib.Core.List.{List, [], _∷_, _++_}
 use Prim.Native.Nat.{ℕ, _+_, _≤_}
 use native.Mathlib.Omega.{arith}
-use lib.Dec.{eqb}
 use borrow.Author.Tests.{eq-eqb}
 use Rattle.words.specs.Choice.{pick, _and_}
 use Rattle.entries.specs.Entry.{bit}
 use Rattle.rules.specs.Calls.{Call, step}
-use Rattle.rules.specs.History.{Made, history, finally, opens, event, isOpening, openings, closings}
+use Rattle.rules.specs.History.{Made, history, finally, opens, event, isOpening, openings}
 use Rattle.rules.specs.State.{State}
-use Rattle.rules.proofs.Changes.{opening, closing}
-use Rattle.rules.proofs.PlaceLaws.{opening-is, closing-is}
 
 -- ---- counts
-unfoldable pub openingsAt : (ℕ → Bool) → List Made → ℕ → ℕ
-openingsAt among [] guest = 0
-openingsAt among (m ∷ rest) guest = opening among (event m) guest + openingsAt among rest guest
-
-unfoldable pub closingsAt : (ℕ → Bool) → List Made → ℕ → ℕ
-closingsAt among [] guest = 0
-closingsAt among (m ∷ rest) guest = closing among (event m) guest + closingsAt among rest guest
-
-pub openings-are : (made : List Made) (guest gpa : ℕ) → openings made guest gpa ≡ openingsAt (λ at. eqb at gpa) made guest
-unfolding openings openingsAt
-openings-are [] guest gpa = refl
-openings-are (m ∷ rest) guest gpa = rw (openings-are rest guest gpa, opening-is (event m) guest gpa)
-
-pub closings-are : (made : List Made) (guest gpa : ℕ) → closings made guest gpa ≡ closingsAt (λ at. eqb at gpa) made guest
-unfolding closings closingsAt
-closings-are [] guest gpa = refl
-closings-are (m ∷ rest) guest gpa = rw (closings-are rest guest gpa, closing-is (event m) guest gpa)
-
 pub openings-append :
     (past rest : List Made) (guest gpa : ℕ) → openings (past ++ rest) guest gpa ≡ openings past guest gpa + openings rest guest gpa
 unfolding openings

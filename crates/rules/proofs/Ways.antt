@@ -2,7 +2,7 @@
 -- the guest. Each is a change of one or two terms of a sum over frames; whence each place comes is told frame by frame.
 -- Assumes nothing.
 use mathlib.Core.Path.{_≡_, refl, sym, _∙_}
-use mathlib.Core.Bool.{Bool, true, false, false≢true}
+use mathlib.Core.Bool.{true, false, false≢true}
 use mathlib.Core.Logic.{_≢_, ⊎-elim}
 use Prim.Native.Nat.{ℕ, _+_, _<_}
 use native.Mathlib.Omega.{arith}
@@ -13,57 +13,55 @@ use Rattle.words.proofs.ChoiceLaws.{same-or-not}
 use Rattle.entries.specs.Entry.{bit}
 use Rattle.entries.specs.declared.entry.Entry.{Entry}
 use Rattle.entries.specs.declared.entry.Decoded.the-variants.{Good}
-use Rattle.rules.specs.Census.{Holding, holds, nothing, holding}
-use Rattle.rules.specs.History.{reads, neither, written}
+use Rattle.rules.specs.Census.{Holding, holds, nothing, holding, placeIn, places}
+use Rattle.rules.specs.History.{reads, neither, isOpening, isClosing, written}
 use Rattle.rules.specs.State.{State, N, entryAt, wordAt}
-use Rattle.rules.proofs.Changes.{weight, held, opening, closing, Whence, old, Change}
+use Rattle.rules.proofs.Changes.{Whence, old, Change}
 use Rattle.rules.proofs.Holdings.{of-another, of-its-own}
-use Rattle.rules.proofs.PlaceLaws.{holding-inside}
+use Rattle.rules.proofs.PlaceLaws.{places-are, holding-inside}
 use Rattle.rules.proofs.Sums.{sum-same, sum-one, sum-two}
 
--- a frame that is nothing to the guest is none of its places, and weighs nothing; a frame is its place at one address
+-- a frame that is nothing to the guest is none of its places, and counts for none; a frame is its place at one address
 pub place-apart : (s : State) (guest gpa f p : ℕ) → holding s guest f ≡ holds gpa → holding s guest p ≡ nothing → f ≢ p
 place-apart s guest gpa f p h k same = absurd (false≢true (cc))
 
 pub one-address : (s : State) (guest f g at here : ℕ) → holding s guest f ≡ holds at → holding s guest g ≡ holds here → f ≡ g → at ≡ here
 one-address s guest f g at here h k same = cc
 
-pub nothing-weighs : (among : ℕ → Bool) {h : Holding} → h ≡ nothing → weight among h ≡ 0
-unfolding weight
-nothing-weighs among e = rw e
+pub nothing-counts : (gpa : ℕ) {h : Holding} → h ≡ nothing → placeIn h gpa ≡ 0
+unfolding placeIn
+nothing-counts gpa e = rw e
 
--- what a page that is not fixed and is VALIDATED weighs
-pub page-weight :
-    (s : State) (guest f : ℕ) (e : Entry) → entryAt s f ≡ Good e → e .fixed ≡ false → e .validated ≡ true → (among : ℕ → Bool)
-    → weight among (holding s guest f) ≡ bit (eqb (e .asid) guest and among (e .address))
-unfolding weight _and_ bit pick
-page-weight s guest f e here unfixed v among =
+-- a page that is not fixed and is VALIDATED counts for its owner at its address
+pub page-counts :
+    (s : State) (guest f : ℕ) (e : Entry) → entryAt s f ≡ Good e → e .fixed ≡ false → e .validated ≡ true → (gpa : ℕ)
+    → placeIn (holding s guest f) gpa ≡ bit (eqb (e .asid) guest and eqb (e .address) gpa)
+unfolding placeIn _and_ bit pick
+page-counts s guest f e here unfixed v gpa =
     ⊎-elim (λ own. rw (of-its-own s guest f e here unfixed v own, eq-eqb _ _ own))
     (λ other. rw (of-another s guest f e here unfixed other, ne-eqb _ _ other))
     (same-or-not (e .asid) guest)
 
 module _ (s u : State) (guest : ℕ) (size : N u ≡ N s) where
-  pub held-same :
-      (among : ℕ → Bool) → ((f : ℕ) → holding u guest f ≡ holding s guest f) → held among u guest ≡ held among s guest
-  unfolding held
-  held-same among same = rw size (sum-same _ _ (N s) (λ f h. rw (same f)))
+  pub places-same : ((f : ℕ) → holding u guest f ≡ holding s guest f) → (gpa : ℕ) → places u guest gpa ≡ places s guest gpa
+  places-same same gpa = rw (places-are u guest gpa, places-are s guest gpa, size) (sum-same _ _ (N s) (λ f h. rw (same f)))
 
   -- one frame is another thing to the guest
-  pub held-one :
-      (among : ℕ → Bool) (p : ℕ) → p < N s → ((f : ℕ) → f ≢ p → holding u guest f ≡ holding s guest f)
-      → held among u guest + weight among (holding s guest p) ≡ held among s guest + weight among (holding u guest p)
-  unfolding held
-  held-one among p inside same = rw size (sum-one _ _ p (N s) inside (λ f other. rw (same f other)))
+  pub places-one :
+      (p : ℕ) → p < N s → ((f : ℕ) → f ≢ p → holding u guest f ≡ holding s guest f) → (gpa : ℕ)
+      → places u guest gpa + placeIn (holding s guest p) gpa ≡ places s guest gpa + placeIn (holding u guest p) gpa
+  places-one p inside same gpa =
+      rw (places-are u guest gpa, places-are s guest gpa, size) (sum-one _ _ p (N s) inside (λ f other. rw (same f other)))
 
   -- none moves
   pub stays :
       ((f : ℕ) → holding u guest f ≡ holding s guest f)
       → ((f gpa i : ℕ) → holding s guest f ≡ holds gpa → wordAt u f i ≡ wordAt s f i)
       → Change s u neither guest
-  unfolding opening closing written
+  unfolding isOpening isClosing written
   stays same words =
       record {
-        balance = λ among. rw (held-same among same);
+        balance = λ gpa. rw (places-same same gpa);
         whence = λ gpa f most h. let was = sym (same f) ∙ h in old f was (λ i. words f gpa i was);
       }
 
@@ -71,25 +69,24 @@ module _ (s u : State) (guest : ℕ) (size : N u ≡ N s) where
   module _ (p q at : ℕ) (from : holding s guest p ≡ holds at) (free : holding s guest q ≡ nothing)
       (left : holding u guest p ≡ nothing) (to : holding u guest q ≡ holds at)
       (same : (f : ℕ) → f ≢ p → f ≢ q → holding u guest f ≡ holding s guest f) where
-    weighs : (among : ℕ → Bool) {h k : Holding} → h ≡ holds at → k ≡ nothing → weight among h + weight among k ≡ bit (among at)
-    unfolding weight
-    weighs among a b = rw (a, b) (omega arith)
+    both-count : (gpa : ℕ) {h k : Holding} → h ≡ holds at → k ≡ nothing → placeIn h gpa + placeIn k gpa ≡ placeIn (holds at) gpa
+    unfolding placeIn
+    both-count gpa a b = rw (a, b) (omega arith)
 
-    held-moved : (among : ℕ → Bool) → held among u guest ≡ held among s guest
-    unfolding held
-    held-moved among =
+    places-moved : (gpa : ℕ) → places u guest gpa ≡ places s guest gpa
+    places-moved gpa =
         let inside = holding-inside s guest at p from in
         let too : q < N s = rw (← size) (holding-inside u guest at q to) in
-        let two = sum-two (λ f. weight among (holding s guest f)) (λ f. weight among (holding u guest f)) p q (N s) inside too
+        let two = sum-two (λ f. placeIn (holding s guest f) gpa) (λ f. placeIn (holding u guest f) gpa) p q (N s) inside too
         (place-apart s guest at p q from free) (λ f off away. rw (same f off away)) in
-        rw size (omega (arith, weighs among from free, weighs among to left))
+        rw (places-are u guest gpa, places-are s guest gpa, size) (omega (arith, both-count gpa from free, both-count gpa to left))
 
     pub moves :
         ((i : ℕ) → wordAt u q i ≡ wordAt s p i)
         → ((f gpa i : ℕ) → f ≢ p → f ≢ q → holding s guest f ≡ holds gpa → wordAt u f i ≡ wordAt s f i)
         → Change s u neither guest
-    unfolding opening closing written
-    moves words others = record { balance = λ among. rw (held-moved among); whence = λ gpa f most h. whence gpa f h }
+    unfolding isOpening isClosing written
+    moves words others = record { balance = λ gpa. rw (places-moved gpa); whence = λ gpa f most h. whence gpa f h }
       where
         whence : (gpa f : ℕ) → holding u guest f ≡ holds gpa → Whence s u neither guest gpa f
         whence gpa f h =
@@ -106,5 +103,5 @@ pub unchanged : (s : State) (guest : ℕ) → Change s s neither guest
 unchanged s guest = stays s s guest refl (λ f. refl) (λ f gpa i h. refl)
 
 pub only-read : (s : State) (guest caller gpa index value : ℕ) → Change s s (reads caller gpa index value) guest
-unfolding opening closing written
-only-read s guest caller gpa index value = record { balance = λ among. refl; whence = λ at f most h. old f h (λ i. refl) }
+unfolding isOpening isClosing written
+only-read s guest caller gpa index value = record { balance = λ at. refl; whence = λ at f most h. old f h (λ i. refl) }
