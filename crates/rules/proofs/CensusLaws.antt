@@ -91,7 +91,8 @@ no-place s guest gpa none =
 one-over : (h : Holding) (b : ℕ) → ((gpa : ℕ) → h ≡ holds gpa → gpa < b) → sum (λ gpa. placeIn h gpa) b ≡ one h
 unfolding placeIn one
 one-over (holds here) b below =
-    sum-single (λ gpa. pick (eqb here gpa) 1 0) here b (below here refl) (λ gpa other. pick-false _ _ (ne-eqb here gpa (λ e. other (sym e))))
+    sum-single (λ gpa. pick (eqb here gpa) 1 0) here b (below here refl)
+    (λ gpa other. pick-false _ _ (ne-eqb here gpa (λ e. other (sym e))))
     ∙ pick-true _ _ (eq-eqb here here refl)
 one-over nothing b below = sum-none (λ gpa. 0) b (λ gpa h. refl)
 one-over (fails number) b below = sum-none (λ gpa. 0) b (λ gpa h. refl)

@@ -2,14 +2,12 @@
 -- openings balance; no call meets 5 or 12; and what an accepted read returns, in one piece. By the theorem, and by soundness.
 -- Assumes nothing.
 use mathlib.Core.Path.{_≡_, refl, ap, _∙_}
-use mathlib.Core.Bool.{Bool, true, false, false≢true}
+use mathlib.Core.Bool.{true, false}
 use mathlib.Core.List.{List, [], _∷_, _++_, append-assoc}
-use mathlib.Core.Logic.{_≢_, ⊎-elim}
+use mathlib.Core.Logic.{_≢_}
 use Prim.Native.Nat.{ℕ, _+_, _≤_}
 use native.Mathlib.Omega.{arith}
-use borrow.Author.Tests.{eqb-true}
 use Rattle.words.specs.Choice.{pick}
-use Rattle.words.proofs.ChoiceLaws.{true-or-false, pick-false, and-left, and-right}
 use Rattle.entries.specs.Entry.{bit, isGuest, isAddress}
 use Rattle.rules.specs.Answers.{refused}
 use Rattle.rules.specs.Balance.{overAddresses, CensusKept}
@@ -21,7 +19,7 @@ use Rattle.rules.specs.State.{State, sized, wordAt}
 use Rattle.rules.proofs.CensusLaws.{bit-most, census-bounded, census-answered, no-place, places-together}
 use Rattle.rules.proofs.History.{empty-sound, no-counter-goes-back}
 use Rattle.rules.proofs.HistoryFrom.{finally-sound}
-use Rattle.rules.proofs.HistoryLists.{cut}
+use Rattle.rules.proofs.HistoryLists.{cut, Opened, opening-there}
 use Rattle.rules.proofs.Never.{sound-never}
 use Rattle.rules.proofs.Sound.{Sound}
 use Rattle.rules.proofs.SoundSteps.{step-sound}
@@ -87,63 +85,12 @@ census-kept length memory calls guest size g =
           (no-place end guest gpa none, events .0, events .1);
     }
 
--- ---- an opening of a guest at an address, in a list that counts one
-pub record Opened (past : List Made) (guest gpa : ℕ) : Type 0 where
-  pub earlier : List Made
-  pub opening : Made
-  pub since : List Made
-  pub frame : ℕ
-  pub past-is : past ≡ earlier ++ (opening ∷ since)
-  pub opens-it : event opening ≡ opens guest gpa frame
-
-is-opening : (e : Event) (guest gpa : ℕ) → isOpening e guest gpa ≡ true → (frame : ℕ) × (e ≡ opens guest gpa frame)
-unfolding isOpening
-is-opening (opens who at frame) guest gpa h =
-    (frame, rw (eqb-true who guest (and-left _ _ h), eqb-true at gpa (and-right _ _ h)))
-is-opening (closes who at) guest gpa h = absurd (false≢true h)
-is-opening (reads who at index value) guest gpa h = absurd (false≢true h)
-is-opening (writes who at index value) guest gpa h = absurd (false≢true h)
-is-opening neither guest gpa h = absurd (false≢true h)
-
-uncounted : {t : Bool} → t ≡ false → bit t ≡ 0
-unfolding bit
-uncounted h = pick-false _ _ h
-
-opened-first : (m : Made) (rest : List Made) (guest gpa : ℕ) → isOpening (event m) guest gpa ≡ true → Opened (m ∷ rest) guest gpa
-opened-first m rest guest gpa h =
-    let o = is-opening (event m) guest gpa h in
-    record { earlier = []; opening = m; since = rest; frame = o .0; past-is = refl; opens-it = o .1 }
-
-opened-later : (m : Made) {rest : List Made} {guest gpa : ℕ} → Opened rest guest gpa → Opened (m ∷ rest) guest gpa
-opened-later m o =
-    record {
-      earlier = m ∷ o .earlier;
-      opening = o .opening;
-      since = o .since;
-      frame = o .frame;
-      past-is = ap (λ l. m ∷ l) (o .past-is);
-      opens-it = o .opens-it;
-    }
-
-pub opening-there : (past : List Made) (guest gpa : ℕ) → 1 ≤ openings past guest gpa → Opened past guest gpa
-unfolding openings
-opening-there [] guest gpa some = let z : ⊥ = omega arith in absurd z
-opening-there (m ∷ rest) guest gpa some =
-    ⊎-elim (opened-first m rest guest gpa)
-    (λ h. opened-later m (opening-there rest guest gpa (omega (arith, uncounted h))))
-    (true-or-false (isOpening (event m) guest gpa))
-
 -- ---- what a read returns, at an address that was opened at most once before it
 -- "the read returns the guest's own last accepted such write to that word since the opening, or, where there is none, the word found at
 -- the opening"
-pub record Returned (past : List Made) (guest gpa index value : ℕ) : Type 0 where
-  pub earlier : List Made
-  pub opening : Made
-  pub since : List Made
-  pub frame : ℕ
-  pub past-is : past ≡ earlier ++ (opening ∷ since)
-  pub opens-it : event opening ≡ opens guest gpa frame
-  pub value-is : value ≡ lastWrite since guest gpa index (wordAt (opening .got) frame index)
+abbrev pub Returned : (past : List Made) (guest gpa index value : ℕ) → Type 0
+Returned past guest gpa index value =
+    (o : Opened past guest gpa) × (value ≡ lastWrite (o .since) guest gpa index (wordAt (o .opening .got) (o .frame) index))
 
 returned-since :
     {s : State} {calls : List Call} {past : List Made} {guest gpa : ℕ} (rest : List Made) (read : Made) (index value : ℕ)
@@ -151,16 +98,8 @@ returned-since :
     → openings past guest gpa ≤ 1 → Opened past guest gpa → Returned past guest gpa index value
 returned-since {guest = guest} {gpa = gpa} rest read index value claim whole e most o =
     let parts = ap (λ l. l ++ (read ∷ rest)) (o .past-is) ∙ append-assoc (o .earlier) (o .opening ∷ o .since) (read ∷ rest) in
-    record {
-      earlier = o .earlier;
-      opening = o .opening;
-      since = o .since;
-      frame = o .frame;
-      past-is = o .past-is;
-      opens-it = o .opens-it;
-      value-is = claim .kept (o .earlier) (o .since) rest (o .opening) read guest gpa (o .frame) index value (whole ∙ parts) (o .opens-it) e
-          (rw (o .past-is) at most);
-    }
+    let once = rw (o .past-is) at most in
+    (o, claim .kept (o .earlier) (o .since) rest (o .opening) read guest gpa (o .frame) index value (whole ∙ parts) (o .opens-it) e once)
 
 pub read-returns :
     (length : ℕ) (memory : List ℕ) (calls : List Call) (past rest : List Made) (read : Made) (guest gpa index value : ℕ)

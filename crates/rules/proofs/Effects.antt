@@ -14,14 +14,13 @@ use Rattle.entries.specs.declared.entry.Entry.{Entry}
 use Rattle.entries.specs.declared.entry.Decoded.the-variants.{Good}
 use Rattle.entries.specs.declared.leaf.LeafWord.{LeafWord}
 use Rattle.entries.specs.declared.leaf.LeafWord.the-variants.{Absent, Present, Misshapen}
-use Rattle.entries.proofs.LeafLaws.{present-address}
 use Rattle.entries.proofs.Tells.{page-fits, fixed-fits, unowned-fits, guest-range}
 use Rattle.rules.specs.Assignment.{assigning, validating}
 use Rattle.rules.specs.Leaves.{leafFrame, isLeaf}
 use Rattle.rules.specs.Merging.{fixing, merging, unmerging, unfixing}
 use Rattle.rules.specs.State.{State, N, M, entryAt, wordAt, withEntry, withWord, withZeros, withCopy}
 use Rattle.rules.proofs.ArgumentLaws.{update-fits, validate-tells, two-addresses, unmerge-tells}
-use Rattle.rules.proofs.Leaves.{consulted-is, is-a-leaf, leaf-apart, not-a-leaf, leaf-inside}
+use Rattle.rules.proofs.Leaves.{is-a-leaf, consulted-address, leaf-apart, not-a-leaf, leaf-inside}
 use Rattle.rules.proofs.Passed.{Updated, Validated, Fixed, Merged, Unmerged, Unfixed}
 use Rattle.rules.proofs.StateLaws.{SameSize, size-refl, size-trans, size-entry, size-word, size-zeros, size-copy, sizes}
 use Rattle.rules.proofs.StateLaws.{entry-tells}
@@ -213,7 +212,7 @@ unmerging-does s caller hpa1 hpa2 asid one two gpa p =
     let range = guest-range asid (unmerge-tells caller hpa1 hpa2 asid (p .arguments) .2) in
     let is-leaf = is-a-leaf s one asid (from-present (p .place)) in
     let apart = leaf-apart s _ _ two is-leaf (p .here2) (not-a-leaf SHARED (p .type2) (omega arith)) in
-    let address = present-address _ gpa (sym (consulted-is s one asid is-leaf) ∙ p .place) in
+    let address = consulted-address s one asid gpa (p .place) in
     let fits = page-fits (N s) asid MERGEABLE true gpa (mergeable-owned _ refl) (range .0) (omega arith) address in
     let e = entry asid MERGEABLE true false gpa in
     let copy = withCopy s (frameOf hpa1) (frameOf hpa2) in
@@ -253,7 +252,7 @@ unfixing-does s caller hpa old gpa p =
     let t = entry-tells s _ old (p .here) in
     let is-leaf = is-a-leaf s old (old .asid) (from-present (p .place)) in
     let apart = leaf-apart s _ _ old is-leaf (p .here) (not-a-leaf MERGEABLE (p .type) (omega arith)) in
-    let address = present-address _ gpa (sym (consulted-is s old (old .asid) is-leaf) ∙ p .place) in
+    let address = consulted-address s old (old .asid) gpa (p .place) in
     let fits = page-fits (N s) (old .asid) MERGEABLE true gpa (mergeable-owned _ refl) (t .owned-asid (mergeable-owned _ (p .type)))
     (t .asid-small) address in
     let e = entry (old .asid) MERGEABLE true false gpa in

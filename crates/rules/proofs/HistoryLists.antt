@@ -1,16 +1,18 @@
--- Lists of calls as they were made: their openings counted, and a list cut at one of its
--- calls, which got what the calls before it left. By induction on the calls.
+-- Lists of calls as they were made: their openings counted and found, and a list cut at one of its calls, which got what the calls before
+-- it left. By induction on the calls.
 -- Assumes nothing.
-use mathlib.Core.Path.{_≡_, refl}
-use mathlib.Core.Bool.{false≢true}
+use mathlib.Core.Path.{_≡_, refl, ap}
+use mathlib.Core.Bool.{Bool, true, false, false≢true}
 use mathlib.Core.List.{List, [], _∷_, _++_}
+use mathlib.Core.Logic.{⊎-elim}
 use Prim.Native.Nat.{ℕ, _+_, _≤_}
 use native.Mathlib.Omega.{arith}
-use borrow.Author.Tests.{eq-eqb}
+use borrow.Author.Tests.{eqb-true, eq-eqb}
 use Rattle.words.specs.Choice.{pick, _and_}
+use Rattle.words.proofs.ChoiceLaws.{true-or-false, pick-false, and-left, and-right}
 use Rattle.entries.specs.Entry.{bit}
 use Rattle.rules.specs.Calls.{Call, step}
-use Rattle.rules.specs.History.{Made, history, finally, opens, event, isOpening, openings}
+use Rattle.rules.specs.History.{Made, history, finally, Event, opens, closes, reads, writes, neither, event, isOpening, openings}
 use Rattle.rules.specs.State.{State}
 
 -- ---- counts
@@ -35,6 +37,52 @@ only-opening past since m guest gpa frame places e most =
     let both = openings-append past (m ∷ since) guest gpa in
     let one = rw (← e) at (opens-here guest gpa frame) in
     omega arith
+
+-- ---- an opening of a guest at an address, in a list that counts one
+pub record Opened (past : List Made) (guest gpa : ℕ) : Type 0 where
+  pub earlier : List Made
+  pub opening : Made
+  pub since : List Made
+  pub frame : ℕ
+  pub past-is : past ≡ earlier ++ (opening ∷ since)
+  pub opens-it : event opening ≡ opens guest gpa frame
+
+is-opening : (e : Event) (guest gpa : ℕ) → isOpening e guest gpa ≡ true → (frame : ℕ) × (e ≡ opens guest gpa frame)
+unfolding isOpening
+is-opening (opens who at frame) guest gpa h =
+    (frame, rw (eqb-true who guest (and-left _ _ h), eqb-true at gpa (and-right _ _ h)))
+is-opening (closes who at) guest gpa h = absurd (false≢true h)
+is-opening (reads who at index value) guest gpa h = absurd (false≢true h)
+is-opening (writes who at index value) guest gpa h = absurd (false≢true h)
+is-opening neither guest gpa h = absurd (false≢true h)
+
+uncounted : {t : Bool} → t ≡ false → bit t ≡ 0
+unfolding bit
+uncounted h = pick-false _ _ h
+
+opened-first : (m : Made) (rest : List Made) (guest gpa : ℕ) → isOpening (event m) guest gpa ≡ true → Opened (m ∷ rest) guest gpa
+opened-first m rest guest gpa h =
+    let o = is-opening (event m) guest gpa h in
+    record { earlier = []; opening = m; since = rest; frame = o .0; past-is = refl; opens-it = o .1 }
+
+opened-later : (m : Made) {rest : List Made} {guest gpa : ℕ} → Opened rest guest gpa → Opened (m ∷ rest) guest gpa
+opened-later m o =
+    record {
+      earlier = m ∷ o .earlier;
+      opening = o .opening;
+      since = o .since;
+      frame = o .frame;
+      past-is = ap (λ l. m ∷ l) (o .past-is);
+      opens-it = o .opens-it;
+    }
+
+pub opening-there : (past : List Made) (guest gpa : ℕ) → 1 ≤ openings past guest gpa → Opened past guest gpa
+unfolding openings
+opening-there [] guest gpa some = let z : ⊥ = omega arith in absurd z
+opening-there (m ∷ rest) guest gpa some =
+    ⊎-elim (opened-first m rest guest gpa)
+    (λ h. opened-later m (opening-there rest guest gpa (omega (arith, uncounted h))))
+    (true-or-false (isOpening (event m) guest gpa))
 
 -- ---- a list cut at one of its calls
 abbrev pub made : State → Call → Made

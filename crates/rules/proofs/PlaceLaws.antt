@@ -3,11 +3,11 @@
 -- Assumes nothing.
 use mathlib.Core.Path.{_≡_, refl}
 use mathlib.Core.Bool.{false≢true}
+use mathlib.Core.Logic.{⊎-elim}
 use Prim.Native.Nat.{ℕ, zero, suc, _≤_, _<_}
-use native.Mathlib.Decide.{ℕ-discrete}
 use native.Mathlib.Omega.{arith}
 use borrow.Author.Tests.{eq-eqb}
-use Rattle.words.proofs.ChoiceLaws.{pick-true}
+use Rattle.words.proofs.ChoiceLaws.{same-or-not, pick-true}
 use Rattle.entries.specs.declared.entry.Decoded.{Decoded}
 use Rattle.entries.specs.declared.entry.Decoded.the-variants.{Good, Bad}
 use Rattle.rules.specs.Balance.{sum}
@@ -50,7 +50,7 @@ module _ (s : State) (guest gpa : ℕ) where
 
   -- two places are one where no more than one is counted
   pub one-place : (p q : ℕ) → places s guest gpa ≤ 1 → holding s guest p ≡ holds gpa → holding s guest q ≡ holds gpa → p ≡ q
-  one-place p q most h k = elim (ℕ-discrete p q) [ yes e ↦ e | no e ↦ absurd (two e) ]
+  one-place p q most h k = ⊎-elim (λ e. e) (λ e. absurd (two e)) (same-or-not p q)
     where
       two : (p ≡ q → ⊥) → ⊥
       two apart =
