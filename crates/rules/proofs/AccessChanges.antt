@@ -12,10 +12,10 @@ use Rattle.words.specs.Choice.{pick, _and_}
 use Rattle.words.proofs.ChoiceLaws.{same-or-not, true-or-false, pick-true, pick-false, and-not}
 use Rattle.entries.specs.Entry.{SHARED, frameOf, isGuest, isOwned}
 use Rattle.entries.proofs.Tells.{in-range, false-not-true}
-use Rattle.rules.specs.Answers.{done, word}
+use Rattle.rules.specs.Answers.{Told, done, word}
 use Rattle.rules.specs.Calls.{READ, WRITE}
 use Rattle.rules.specs.Census.{holds, nothing, holding, places}
-use Rattle.rules.specs.History.{reads, writes, neither, byAnswer, eventOf, isOpening, isClosing, written}
+use Rattle.rules.specs.History.{reads, writes, neither, byAnswer, accepted, eventOf, isOpening, isClosing, written}
 use Rattle.rules.specs.State.{State, wordAt, withWord}
 use Rattle.rules.proofs.ArgumentLaws.{access-tells, guest-access}
 use Rattle.rules.proofs.Changes.{old, Change}
@@ -32,9 +32,9 @@ use Rattle.rules.proofs.Ways.{place-apart, one-address, places-same, st
 pub read-change :
     (s : State) (guest caller gpa hpa gtype ntype index value : ℕ)
     → Change s s (eventOf (READ caller gpa hpa gtype ntype index) (word value)) guest
-unfolding eventOf byAnswer
+unfolding eventOf byAnswer accepted
 read-change s guest caller gpa hpa gtype ntype index value =
-    ⊎-elim (λ o. rw (pick-true _ _ o) (only-read s guest caller gpa index value)) (λ o. rw (pick-false _ _ o) (unchanged s guest))
+    ⊎-elim (λ o. rw (pick-true _ _ o) (only-read s guest caller gpa index)) (λ o. rw (pick-false _ _ o) (unchanged s guest))
     (true-or-false (isOwned gtype))
 
 -- an access that is private or mergeable is at a place of the caller
@@ -56,40 +56,39 @@ owned-access s w caller gpa hpa gtype ntype index p o =
     let small = access-tells caller gpa hpa gtype ntype index (p .arguments) .caller-small in
     in-range caller (omega (arith, some)) small
 
-pub record ReadPlace (s : State) (guest gpa index value : ℕ) : Type 0 where
+pub record ReadPlace (s : State) (guest gpa index : ℕ) (told : Told) : Type 0 where
   pub range : isGuest guest ≡ true
   pub frame : ℕ
   pub place : holding s guest frame ≡ holds gpa
-  pub answer : value ≡ wordAt s frame index
+  pub answer : told ≡ word (wordAt s frame index)
 
 -- an accepted private or mergeable read is a guest's, and answers a word of a place of it
 pub read-of-place :
     (s : State) (caller gpa hpa gtype ntype index : ℕ) → Accessed s false caller gpa hpa gtype ntype index
-    → (guest at place value : ℕ)
-    → eventOf (READ caller gpa hpa gtype ntype index) (word (wordAt s (frameOf hpa) index)) ≡ reads guest at place value
-    → ReadPlace s guest at place value
-unfolding eventOf byAnswer
-read-of-place s caller gpa hpa gtype ntype index p guest at place value =
+    → (guest at place : ℕ)
+    → eventOf (READ caller gpa hpa gtype ntype index) (word (wordAt s (frameOf hpa) index)) ≡ reads guest at place
+    → ReadPlace s guest at place (word (wordAt s (frameOf hpa) index))
+unfolding eventOf byAnswer accepted
+read-of-place s caller gpa hpa gtype ntype index p guest at place =
     ⊎-elim owned (λ o h. let k = sym (pick-false _ _ o) ∙ h in absurd (false≢true (cc))) (true-or-false (isOwned gtype))
   where
-    named : (w : ℕ) → isOwned gtype ≡ true → reads caller gpa index w ≡ reads guest at place value → w ≡ wordAt s (frameOf hpa) index
-        → ReadPlace s guest at place value
-    named w o h v =
+    named : isOwned gtype ≡ true → reads caller gpa index ≡ reads guest at place
+        → ReadPlace s guest at place (word (wordAt s (frameOf hpa) index))
+    named o h =
         let who : caller ≡ guest = cc in
         let where-at : gpa ≡ at = cc in
         let which : index ≡ place = cc in
-        let what : w ≡ value = cc in
         record {
           range = rw (← who) (owned-access s false caller gpa hpa gtype ntype index p o);
           frame = frameOf hpa;
           place = rw (← who, ← where-at) (way-place s false caller gpa (frameOf hpa) gtype (p .way) o);
-          answer = rw (← what, ← which) v;
+          answer = rw which;
         }
 
     owned : isOwned gtype ≡ true
-        → pick (isOwned gtype) (reads caller gpa index (wordAt s (frameOf hpa) index)) neither ≡ reads guest at place value
-        → ReadPlace s guest at place value
-    owned o h = named _ o (sym (pick-true _ _ o) ∙ h) refl
+        → pick (isOwned gtype) (reads caller gpa index) neither ≡ reads guest at place
+        → ReadPlace s guest at place (word (wordAt s (frameOf hpa) index))
+    owned o h = named o (sym (pick-true _ _ o) ∙ h)
 
 -- ---- WRITE
 -- what is written, word by word
@@ -188,6 +187,6 @@ module _ (s : State) (sound : Sound s) (caller gpa hpa gtype ntype index value :
         }
 
   pub write-change : Change s writtenNow (eventOf (WRITE caller gpa hpa gtype ntype index value) done) guest
-  unfolding eventOf byAnswer
+  unfolding eventOf byAnswer accepted
   write-change =
       ⊎-elim (λ o. rw (pick-true _ _ o) (private-change o)) (λ o. rw (pick-false _ _ o) (shared-change o)) (true-or-false (isOwned gtype))

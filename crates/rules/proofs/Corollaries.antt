@@ -9,7 +9,7 @@ use Prim.Native.Nat.{ℕ, _+_, _≤_}
 use native.Mathlib.Omega.{arith}
 use Rattle.words.specs.Choice.{pick}
 use Rattle.entries.specs.Entry.{bit, isGuest, isAddress}
-use Rattle.rules.specs.Answers.{refused}
+use Rattle.rules.specs.Answers.{Told, refused, word}
 use Rattle.rules.specs.Balance.{overAddresses, CensusKept}
 use Rattle.rules.specs.Calls.{Call, step}
 use Rattle.rules.specs.History.{emptyTable, Made, history, finally, Event, opens, closes, reads, writes, neither, eventOf, event}
@@ -51,7 +51,7 @@ one-event : (e : Event) (guest gpa : ℕ) → bit (isOpening e guest gpa) + bit 
 unfolding isOpening isClosing bit pick
 one-event (opens who at frame) guest gpa = omega (arith, bit-most (isOpening (opens who at frame) guest gpa))
 one-event (closes who at) guest gpa = omega (arith, bit-most (isClosing (closes who at) guest gpa))
-one-event (reads who at index value) guest gpa = omega arith
+one-event (reads who at index) guest gpa = omega arith
 one-event (writes who at index value) guest gpa = omega arith
 one-event neither guest gpa = omega arith
 
@@ -88,24 +88,24 @@ census-kept length memory calls guest size g =
 -- ---- what a read returns, at an address that was opened at most once before it
 -- "the read returns the guest's own last accepted such write to that word since the opening, or, where there is none, the word found at
 -- the opening"
-abbrev pub Returned : (past : List Made) (guest gpa index value : ℕ) → Type 0
-Returned past guest gpa index value =
-    (o : Opened past guest gpa) × (value ≡ lastWrite (o .since) guest gpa index (wordAt (o .opening .got) (o .frame) index))
+abbrev pub Returned : (past : List Made) (guest gpa index : ℕ) (told : Told) → Type 0
+Returned past guest gpa index told =
+    (o : Opened past guest gpa) × (told ≡ word (lastWrite (o .since) guest gpa index (wordAt (o .opening .got) (o .frame) index)))
 
 returned-since :
-    {s : State} {calls : List Call} {past : List Made} {guest gpa : ℕ} (rest : List Made) (read : Made) (index value : ℕ)
-    → NoCounterGoesBack s calls → history s calls ≡ past ++ (read ∷ rest) → event read ≡ reads guest gpa index value
-    → openings past guest gpa ≤ 1 → Opened past guest gpa → Returned past guest gpa index value
-returned-since {guest = guest} {gpa = gpa} rest read index value claim whole e most o =
+    {s : State} {calls : List Call} {past : List Made} {guest gpa : ℕ} (rest : List Made) (read : Made) (index : ℕ)
+    → NoCounterGoesBack s calls → history s calls ≡ past ++ (read ∷ rest) → event read ≡ reads guest gpa index
+    → openings past guest gpa ≤ 1 → Opened past guest gpa → Returned past guest gpa index (read .told)
+returned-since {guest = guest} {gpa = gpa} rest read index claim whole e most o =
     let parts = ap (λ l. l ++ (read ∷ rest)) (o .past-is) ∙ append-assoc (o .earlier) (o .opening ∷ o .since) (read ∷ rest) in
     let once = rw (o .past-is) at most in
-    (o, claim .kept (o .earlier) (o .since) rest (o .opening) read guest gpa (o .frame) index value (whole ∙ parts) (o .opens-it) e once)
+    (o, claim .kept (o .earlier) (o .since) rest (o .opening) read guest gpa (o .frame) index (whole ∙ parts) (o .opens-it) e once)
 
 pub read-returns :
-    (length : ℕ) (memory : List ℕ) (calls : List Call) (past rest : List Made) (read : Made) (guest gpa index value : ℕ)
-    → history (emptyTable length memory) calls ≡ past ++ (read ∷ rest) → event read ≡ reads guest gpa index value
-    → openings past guest gpa ≤ 1 → Returned past guest gpa index value
-read-returns length memory calls past rest read guest gpa index value whole e most =
+    (length : ℕ) (memory : List ℕ) (calls : List Call) (past rest : List Made) (read : Made) (guest gpa index : ℕ)
+    → history (emptyTable length memory) calls ≡ past ++ (read ∷ rest) → event read ≡ reads guest gpa index
+    → openings past guest gpa ≤ 1 → Returned past guest gpa index (read .told)
+read-returns length memory calls past rest read guest gpa index whole e most =
     let claim = no-counter-goes-back length memory calls in
-    returned-since rest read index value claim whole e most
-    (opening-there past guest gpa (claim .opened-before past rest read guest gpa index value whole e))
+    returned-since rest read index claim whole e most
+    (opening-there past guest gpa (claim .opened-before past rest read guest gpa index whole e))

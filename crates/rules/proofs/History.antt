@@ -54,9 +54,9 @@ no-counter-goes-back length memory calls =
     let runs = runs-on (emptyTable length memory) calls (empty-sound length memory) in
     record {
       counted = λ guest gpa g. omega (arith, runs .counted guest gpa g, no-place-yet length memory guest gpa);
-      opened-before = λ past rest read guest gpa index value whole e.
-          omega (arith, runs .opened-before past rest read guest gpa index value whole e, no-place-yet length memory guest gpa);
-      kept = λ past since rest opening read guest gpa frame index value whole o e most.
-          runs .kept past since rest opening read guest gpa frame index value whole o e
+      opened-before = λ past rest read guest gpa index whole e.
+          omega (arith, runs .opened-before past rest read guest gpa index whole e, no-place-yet length memory guest gpa);
+      kept = λ past since rest opening read guest gpa frame index whole o e most.
+          runs .kept past since rest opening read guest gpa frame index whole o e
           (omega (arith, no-place-yet length memory guest gpa));
     }

@@ -1,12 +1,13 @@
 -- A list of calls from any sound state: places plus closings are the places at the start plus the openings, and a guest with one place at
 -- an address reads there what it found or wrote. By induction on the calls, from what one call does to the places of a guest (Change).
 -- Assumes nothing.
-use mathlib.Core.Path.{_≡_, refl, sym, _∙_}
+use mathlib.Core.Path.{_≡_, refl, sym, ap, _∙_}
 use mathlib.Core.Bool.{true}
 use mathlib.Core.List.{List, [], _∷_, _++_}
 use Prim.Native.Nat.{ℕ, _+_, _≤_}
 use native.Mathlib.Omega.{arith}
 use Rattle.entries.specs.Entry.{isGuest, bit}
+use Rattle.rules.specs.Answers.{Told, word}
 use Rattle.rules.specs.Calls.{Call, step}
 use Rattle.rules.specs.Census.{holds, holding, places}
 use Rattle.rules.specs.History.{Made, history, finally, Event, opens, reads, event, isOpening, openings, closings}
@@ -60,13 +61,13 @@ module _ {s u : State} {guest : ℕ} (gpa : ℕ) where
       found f i h = go f i (change .whence gpa f (kept .single) h)
 
 -- ---- a read in a list of calls: the calls before it, and the place that it read from
-record ReadIn (s : State) (past : List Made) (guest gpa index value : ℕ) : Type 0 where
+record ReadIn (s : State) (past : List Made) (guest gpa index : ℕ) (told : Told) : Type 0 where
   earlier : List Call
   past-is : past ≡ history s earlier
   in-range : isGuest guest ≡ true
   frame : ℕ
   here : holding (finally s earlier) guest frame ≡ holds gpa
-  value-is : value ≡ wordAt (finally s earlier) frame index
+  answer : told ≡ word (wordAt (finally s earlier) frame index)
 
 -- ---- what holds of a list of calls from a sound state
 pub record RunsOn (s : State) (calls : List Call) : Type 0 where
@@ -75,22 +76,22 @@ pub record RunsOn (s : State) (calls : List Call) : Type 0 where
       → places (finally s calls) guest gpa + closings (history s calls) guest gpa
       ≡ places s guest gpa + openings (history s calls) guest gpa
   pub opened-before :
-      (past rest : List Made) (read : Made) (guest gpa index value : ℕ)
-      → history s calls ≡ past ++ (read ∷ rest) → event read ≡ reads guest gpa index value
+      (past rest : List Made) (read : Made) (guest gpa index : ℕ)
+      → history s calls ≡ past ++ (read ∷ rest) → event read ≡ reads guest gpa index
       → 1 ≤ places s guest gpa + openings past guest gpa
   -- since an opening in the list
   pub kept :
-      (past since rest : List Made) (opening read : Made) (guest gpa frame index value : ℕ)
+      (past since rest : List Made) (opening read : Made) (guest gpa frame index : ℕ)
       → history s calls ≡ past ++ (opening ∷ (since ++ (read ∷ rest)))
-      → event opening ≡ opens guest gpa frame → event read ≡ reads guest gpa index value
+      → event opening ≡ opens guest gpa frame → event read ≡ reads guest gpa index
       → places s guest gpa + openings (past ++ (opening ∷ since)) guest gpa ≤ 1
-      → value ≡ lastWrite since guest gpa index (wordAt (opening .got) frame index)
+      → read .told ≡ word (lastWrite since guest gpa index (wordAt (opening .got) frame index))
   -- of a place that stands at the start
   pub kept-since-start :
-      (past rest : List Made) (read : Made) (guest gpa frame index value : ℕ)
-      → history s calls ≡ past ++ (read ∷ rest) → holding s guest frame ≡ holds gpa → event read ≡ reads guest gpa index value
+      (past rest : List Made) (read : Made) (guest gpa frame index : ℕ)
+      → history s calls ≡ past ++ (read ∷ rest) → holding s guest frame ≡ holds gpa → event read ≡ reads guest gpa index
       → places s guest gpa + openings past guest gpa ≤ 1
-      → value ≡ lastWrite past guest gpa index (wordAt s frame index)
+      → read .told ≡ word (lastWrite past guest gpa index (wordAt s frame index))
 
 pub finally-sound : (s : State) (calls : List Call) → Sound s → Sound (finally s calls)
 unfolding finally
@@ -121,22 +122,22 @@ kept-over s (call ∷ rest) guest gpa w sound g none kept =
 
 -- ---- a read in a list
 read-in :
-    (s : State) (calls : List Call) (past rest : List Made) (read : Made) (guest gpa index value : ℕ)
-    → history s calls ≡ past ++ (read ∷ rest) → event read ≡ reads guest gpa index value → ReadIn s past guest gpa index value
+    (s : State) (calls : List Call) (past rest : List Made) (read : Made) (guest gpa index : ℕ)
+    → history s calls ≡ past ++ (read ∷ rest) → event read ≡ reads guest gpa index → ReadIn s past guest gpa index (read .told)
 unfolding event
-read-in s calls past rest read guest gpa index value whole e =
+read-in s calls past rest read guest gpa index whole e =
     let c = cut s calls past read rest whole in
-    let found = read-place (finally s (c .earlier)) (c .this) guest gpa index value (rw (c .this-is) at e) in
+    let found = read-place (finally s (c .earlier)) (c .this) guest gpa index (rw (c .this-is) at e) in
     record {
       earlier = c .earlier;
       past-is = c .past-is;
       in-range = found .range;
       frame = found .frame;
       here = found .place;
-      value-is = found .answer;
+      answer = ap (λ m. m .told) (c .this-is) ∙ found .answer;
     }
 
-module _ {s : State} {past : List Made} {guest gpa index value : ℕ} (sound : Sound s) (r : ReadIn s past guest gpa index value) where
+module _ {s : State} {past : List Made} {guest gpa index : ℕ} {told : Told} (sound : Sound s) (r : ReadIn s past guest gpa index told) where
   -- there is a place to read from, so there was one at the start or an opening since
   read-somewhere : 1 ≤ places s guest gpa + openings past guest gpa
   read-somewhere =
@@ -145,17 +146,17 @@ module _ {s : State} {past : List Made} {guest gpa index value : ℕ} (sound : S
 
   -- it is the only one still, and holds what was written last
   read-kept :
-      (w : ℕ → ℕ) → openings past guest gpa ≡ 0 → Kept s guest gpa w → value ≡ lastWrite past guest gpa index (w index)
+      (w : ℕ → ℕ) → openings past guest gpa ≡ 0 → Kept s guest gpa w → told ≡ word (lastWrite past guest gpa index (w index))
   read-kept w none kept =
       let then = kept-over s (r .earlier) guest gpa w sound (r .in-range) (rw (r .past-is) at none) kept in
-      rw (r .past-is) (r .value-is ∙ then .words (r .frame) index (r .here))
+      rw (r .past-is) (r .answer ∙ ap word (then .words (r .frame) index (r .here)))
 
 -- a read after an opening, at an address that has no more than one place or opening until then
 read-since :
-    {s : State} {past since tail : List Made} {opening : Made} {guest gpa index value : ℕ} (frame : ℕ) → Sound s
-    → (c : Cut s past opening tail) → ReadIn (step (finally s (c .earlier)) (c .this) .after) since guest gpa index value
+    {s : State} {past since tail : List Made} {opening : Made} {guest gpa index : ℕ} {told : Told} (frame : ℕ) → Sound s
+    → (c : Cut s past opening tail) → ReadIn (step (finally s (c .earlier)) (c .this) .after) since guest gpa index told
     → event opening ≡ opens guest gpa frame → places s guest gpa + openings (past ++ (opening ∷ since)) guest gpa ≤ 1
-    → value ≡ lastWrite since guest gpa index (wordAt (opening .got) frame index)
+    → told ≡ word (lastWrite since guest gpa index (wordAt (opening .got) frame index))
 unfolding event
 read-since {s} {past} {since} {tail} {opening} {guest} {gpa} frame sound c r e most =
     let before = finally s (c .earlier) in
@@ -171,14 +172,14 @@ pub runs-on : (s : State) (calls : List Call) → Sound s → RunsOn s calls
 runs-on s calls sound =
     record {
       counted = λ guest gpa g. places-over s calls guest gpa sound g;
-      opened-before = λ past rest read guest gpa index value whole e.
-          read-somewhere sound (read-in s calls past rest read guest gpa index value whole e);
-      kept = λ past since rest opening read guest gpa frame index value whole o e most.
+      opened-before = λ past rest read guest gpa index whole e.
+          read-somewhere sound (read-in s calls past rest read guest gpa index whole e);
+      kept = λ past since rest opening read guest gpa frame index whole o e most.
           let c = cut s calls past opening (since ++ (read ∷ rest)) whole in
-          let r = read-in _ (c .later) since rest read guest gpa index value (sym (c .rest-is)) e in
+          let r = read-in _ (c .later) since rest read guest gpa index (sym (c .rest-is)) e in
           read-since frame sound c r o most;
-      kept-since-start = λ past rest read guest gpa frame index value whole here e most.
+      kept-since-start = λ past rest read guest gpa frame index whole here e most.
           let some = place-counts s guest gpa frame here in
-          read-kept sound (read-in s calls past rest read guest gpa index value whole e) _ (omega arith)
+          read-kept sound (read-in s calls past rest read guest gpa index whole e) _ (omega arith)
           (kept-standing s guest gpa frame (omega arith) here);
     }

@@ -52,7 +52,7 @@ unfolding isOpening
 is-opening (opens who at frame) guest gpa h =
     (frame, rw (eqb-true who guest (and-left _ _ h), eqb-true at gpa (and-right _ _ h)))
 is-opening (closes who at) guest gpa h = absurd (false≢true h)
-is-opening (reads who at index value) guest gpa h = absurd (false≢true h)
+is-opening (reads who at index) guest gpa h = absurd (false≢true h)
 is-opening (writes who at index value) guest gpa h = absurd (false≢true h)
 is-opening neither guest gpa h = absurd (false≢true h)
 

@@ -8,7 +8,7 @@ use Rattle.words.proofs.ChoiceLaws.{pick-true, pick-false}
 use Rattle.entries.specs.Entry.{isGuest}
 use Rattle.rules.specs.Answers.{Told, refused, done, none, closed, opened, already, word, count, Outcome}
 use Rattle.rules.specs.Calls.{Call, RMPUPDATE, PVALIDATE, PFIX, PMERGE, PUNMERGE, PUNFIX, READ, WRITE, CENSUS, step}
-use Rattle.rules.specs.History.{Event, opens, closes, reads, writes, neither, byAnswer, eventOf}
+use Rattle.rules.specs.History.{Event, opens, closes, reads, writes, neither, byAnswer, accepted, eventOf}
 use Rattle.rules.specs.State.{State}
 use Rattle.rules.proofs.AccessChanges.{ReadPlace, read-of-place, read-change, write-change}
 use Rattle.rules.proofs.AssignmentChanges.{update-change, validate-change}
@@ -27,7 +27,7 @@ pick-same true a = pick-true _ _ refl
 pick-same false a = pick-false _ _ refl
 
 refused-event : (c : Call) (n : ℕ) → eventOf c (refused n) ≡ neither
-unfolding eventOf byAnswer
+unfolding eventOf byAnswer accepted
 refused-event (RMPUPDATE caller hpa gpa asid kind) n = refl
 refused-event (PVALIDATE caller gpa hpa kind) n = refl
 refused-event (PFIX caller hpa leaf) n = refl
@@ -78,26 +78,26 @@ module _ (s : State) (guest : ℕ) where
 unfoldable isRead : Event → Bool
 isRead (opens guest gpa frame) = false
 isRead (closes guest gpa) = false
-isRead (reads guest gpa index value) = true
+isRead (reads guest gpa index) = true
 isRead (writes guest gpa index value) = false
 isRead neither = false
 
-no-read : {A : Type 0} (e : Event) (guest gpa index value : ℕ) → isRead e ≡ false → e ≡ reads guest gpa index value → A
+no-read : {A : Type 0} (e : Event) (guest gpa index : ℕ) → isRead e ≡ false → e ≡ reads guest gpa index → A
 unfolding isRead
-no-read e guest gpa index value h same = absurd (false≢true (sym (rw same at h)))
+no-read e guest gpa index h same = absurd (false≢true (sym (rw same at h)))
 
 answered-else :
-    (t : Told) (ifDone ifOpened : Event) (ifClosed : ℕ → ℕ → Event) → isRead ifDone ≡ false → isRead ifOpened ≡ false
-    → ((g a : ℕ) → isRead (ifClosed g a) ≡ false) → isRead (byAnswer t ifDone ifClosed ifOpened (λ value. neither)) ≡ false
+    (t : Told) (ifClosed : ℕ → ℕ → Event) (ifOpened ifElse : Event) → ((g a : ℕ) → isRead (ifClosed g a) ≡ false)
+    → isRead ifOpened ≡ false → isRead ifElse ≡ false → isRead (byAnswer t ifClosed ifOpened ifElse) ≡ false
 unfolding byAnswer isRead
-answered-else (refused number) d o c hd ho hc = refl
-answered-else done d o c hd ho hc = hd
-answered-else none d o c hd ho hc = refl
-answered-else (closed guest gpa) d o c hd ho hc = hc guest gpa
-answered-else opened d o c hd ho hc = ho
-answered-else already d o c hd ho hc = refl
-answered-else (word value) d o c hd ho hc = refl
-answered-else (count number) d o c hd ho hc = refl
+answered-else (refused number) c o e hc ho he = refl
+answered-else done c o e hc ho he = he
+answered-else none c o e hc ho he = he
+answered-else (closed guest gpa) c o e hc ho he = hc guest gpa
+answered-else opened c o e hc ho he = ho
+answered-else already c o e hc ho he = he
+answered-else (word value) c o e hc ho he = he
+answered-else (count number) c o e hc ho he = he
 
 chosen-else : (t : Bool) (e : Event) → isRead e ≡ false → isRead (pick t e neither) ≡ false
 unfolding pick isRead
@@ -105,23 +105,23 @@ chosen-else true e h = h
 chosen-else false e h = refl
 
 pub read-place :
-    (s : State) (c : Call) (guest gpa index value : ℕ) → eventOf c (step s c .told) ≡ reads guest gpa index value
-    → ReadPlace s guest gpa index value
-unfolding eventOf step isRead
-read-place s (RMPUPDATE caller hpa at asid kind) guest gpa index value =
-    no-read _ guest gpa index value (answered-else _ _ _ _ refl refl (λ g a. refl))
-read-place s (PVALIDATE caller at hpa kind) guest gpa index value =
-    no-read _ guest gpa index value (answered-else _ _ _ _ refl refl (λ g a. refl))
-read-place s (PFIX caller hpa leaf) guest gpa index value = no-read _ guest gpa index value refl
-read-place s (PMERGE caller hpa1 hpa2) guest gpa index value = no-read _ guest gpa index value refl
-read-place s (PUNMERGE caller hpa1 hpa2 asid) guest gpa index value = no-read _ guest gpa index value refl
-read-place s (PUNFIX caller hpa) guest gpa index value = no-read _ guest gpa index value refl
-read-place s (READ caller at hpa gtype ntype i) guest gpa index value =
-    read-cases (λ o. eventOf (READ caller at hpa gtype ntype i) (o .told) ≡ reads guest gpa index value → ReadPlace s guest gpa index value)
+    (s : State) (c : Call) (guest gpa index : ℕ) → eventOf c (step s c .told) ≡ reads guest gpa index
+    → ReadPlace s guest gpa index (step s c .told)
+unfolding eventOf step isRead accepted
+read-place s (RMPUPDATE caller hpa at asid kind) guest gpa index =
+    no-read _ guest gpa index (answered-else _ _ _ _ (λ g a. refl) refl refl)
+read-place s (PVALIDATE caller at hpa kind) guest gpa index =
+    no-read _ guest gpa index (answered-else _ _ _ _ (λ g a. refl) refl refl)
+read-place s (PFIX caller hpa leaf) guest gpa index = no-read _ guest gpa index refl
+read-place s (PMERGE caller hpa1 hpa2) guest gpa index = no-read _ guest gpa index refl
+read-place s (PUNMERGE caller hpa1 hpa2 asid) guest gpa index = no-read _ guest gpa index refl
+read-place s (PUNFIX caller hpa) guest gpa index = no-read _ guest gpa index refl
+read-place s (READ caller at hpa gtype ntype i) guest gpa index =
+    read-cases (λ o. eventOf (READ caller at hpa gtype ntype i) (o .told) ≡ reads guest gpa index → ReadPlace s guest gpa index (o .told))
     s
-    (λ n why. no-read _ guest gpa index value (rw (refused-event (READ caller at hpa gtype ntype i) n)))
+    (λ n why. no-read _ guest gpa index (rw (refused-event (READ caller at hpa gtype ntype i) n)))
     caller at hpa gtype ntype i
-    (λ p. read-of-place s caller at hpa gtype ntype i p guest gpa index value)
-read-place s (WRITE caller at hpa gtype ntype i w) guest gpa index value =
-    no-read _ guest gpa index value (chosen-else _ _ (answered-else _ _ _ _ refl refl (λ g a. refl)))
-read-place s (CENSUS asid) guest gpa index value = no-read _ guest gpa index value refl
+    (λ p. read-of-place s caller at hpa gtype ntype i p guest gpa index)
+read-place s (WRITE caller at hpa gtype ntype i w) guest gpa index =
+    no-read _ guest gpa index (chosen-else _ _ (answered-else _ _ _ _ (λ g a. refl) refl refl))
+read-place s (CENSUS asid) guest gpa index = no-read _ guest gpa index refl

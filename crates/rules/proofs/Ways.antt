@@ -102,6 +102,6 @@ module _ (s u : State) (guest : ℕ) (size : N u ≡ N s) where
 pub unchanged : (s : State) (guest : ℕ) → Change s s neither guest
 unchanged s guest = stays s s guest refl (λ f. refl) (λ f gpa i h. refl)
 
-pub only-read : (s : State) (guest caller gpa index value : ℕ) → Change s s (reads caller gpa index value) guest
+pub only-read : (s : State) (guest caller gpa index : ℕ) → Change s s (reads caller gpa index) guest
 unfolding isOpening isClosing written
-only-read s guest caller gpa index value = record { balance = λ at. refl; whence = λ at f most h. old f h (λ i. refl) }
+only-read s guest caller gpa index = record { balance = λ at. refl; whence = λ at f most h. old f h (λ i. refl) }

@@ -35,36 +35,38 @@ finally s (call ∷ rest) = finally (step s call .after) rest
 pub data Event : Type 0 where
   opens : (guest gpa frame : ℕ) → Event
   closes : (guest gpa : ℕ) → Event
-  reads : (guest gpa index value : ℕ) → Event
+  reads : (guest gpa index : ℕ) → Event
   writes : (guest gpa index value : ℕ) → Event
   neither : Event
 
--- the event of an answer: one for *done*, *closed*, *opened* and a word each, and none for any other answer
-unfoldable pub byAnswer : Told → Event → (ℕ → ℕ → Event) → Event → (ℕ → Event) → Event
-byAnswer (refused number) ifDone ifClosed ifOpened ifWord = neither
-byAnswer done ifDone ifClosed ifOpened ifWord = ifDone
-byAnswer none ifDone ifClosed ifOpened ifWord = neither
-byAnswer (closed guest gpa) ifDone ifClosed ifOpened ifWord = ifClosed guest gpa
-byAnswer opened ifDone ifClosed ifOpened ifWord = ifOpened
-byAnswer already ifDone ifClosed ifOpened ifWord = neither
-byAnswer (word value) ifDone ifClosed ifOpened ifWord = ifWord value
-byAnswer (count number) ifDone ifClosed ifOpened ifWord = neither
+-- the event of an answer: none for a refusal, one for *closed*, one for *opened*, one for every other answer
+unfoldable pub byAnswer : Told → (ℕ → ℕ → Event) → Event → Event → Event
+byAnswer (refused number) ifClosed ifOpened ifElse = neither
+byAnswer done ifClosed ifOpened ifElse = ifElse
+byAnswer none ifClosed ifOpened ifElse = ifElse
+byAnswer (closed guest gpa) ifClosed ifOpened ifElse = ifClosed guest gpa
+byAnswer opened ifClosed ifOpened ifElse = ifOpened
+byAnswer already ifClosed ifOpened ifElse = ifElse
+byAnswer (word value) ifClosed ifOpened ifElse = ifElse
+byAnswer (count number) ifClosed ifOpened ifElse = ifElse
+
+-- the event of any answer but a refusal
+unfoldable pub accepted : Told → Event → Event
+accepted told e = byAnswer told (λ guest gpa. e) e e
 
 -- "*Opening*: a PVALIDATE answered *opened*, for its caller and gpa. *Closing*: an RMPUPDATE answered *closed*, for the guest and address
 -- that the answer names." "A read or write belongs to its caller and its gpa, whichever frame it names, and is private or mergeable if its
 -- gtype is 1 or 2."
 unfoldable pub eventOf : Call → Told → Event
-eventOf (RMPUPDATE caller hpa gpa asid kind) told = byAnswer told neither closes neither (λ value. neither)
-eventOf (PVALIDATE caller gpa hpa kind) told =
-    byAnswer told neither (λ guest address. neither) (opens caller gpa (frameOf hpa)) (λ value. neither)
+eventOf (RMPUPDATE caller hpa gpa asid kind) told = byAnswer told closes neither neither
+eventOf (PVALIDATE caller gpa hpa kind) told = byAnswer told (λ guest address. neither) (opens caller gpa (frameOf hpa)) neither
 eventOf (PFIX caller hpa leaf) told = neither
 eventOf (PMERGE caller hpa1 hpa2) told = neither
 eventOf (PUNMERGE caller hpa1 hpa2 asid) told = neither
 eventOf (PUNFIX caller hpa) told = neither
-eventOf (READ caller gpa hpa gtype ntype index) told =
-    pick (isOwned gtype) (byAnswer told neither (λ guest address. neither) neither (reads caller gpa index)) neither
+eventOf (READ caller gpa hpa gtype ntype index) told = pick (isOwned gtype) (accepted told (reads caller gpa index)) neither
 eventOf (WRITE caller gpa hpa gtype ntype index value) told =
-    pick (isOwned gtype) (byAnswer told (writes caller gpa index value) (λ guest address. neither) neither (λ value. neither)) neither
+    pick (isOwned gtype) (accepted told (writes caller gpa index value)) neither
 eventOf (CENSUS asid) told = neither
 
 unfoldable pub event : Made → Event
@@ -74,14 +76,14 @@ event m = eventOf (m .call) (m .told)
 unfoldable pub isOpening : Event → ℕ → ℕ → Bool
 isOpening (opens who at frame) guest gpa = eqb who guest and eqb at gpa
 isOpening (closes who at) guest gpa = false
-isOpening (reads who at index value) guest gpa = false
+isOpening (reads who at index) guest gpa = false
 isOpening (writes who at index value) guest gpa = false
 isOpening neither guest gpa = false
 
 unfoldable pub isClosing : Event → ℕ → ℕ → Bool
 isClosing (opens who at frame) guest gpa = false
 isClosing (closes who at) guest gpa = eqb who guest and eqb at gpa
-isClosing (reads who at index value) guest gpa = false
+isClosing (reads who at index) guest gpa = false
 isClosing (writes who at index value) guest gpa = false
 isClosing neither guest gpa = false
 
@@ -98,7 +100,7 @@ closings (m ∷ rest) guest gpa = bit (isClosing (event m) guest gpa) + closings
 unfoldable pub written : Event → ℕ → ℕ → ℕ → ℕ → ℕ
 written (opens who at frame) guest gpa index before = before
 written (closes who at) guest gpa index before = before
-written (reads who at place value) guest gpa index before = before
+written (reads who at place) guest gpa index before = before
 written (writes who at place value) guest gpa index before = pick (eqb who guest and eqb at gpa and eqb place index) value before
 written neither guest gpa index before = before
 
@@ -114,17 +116,17 @@ pub record NoCounterGoesBack (s : State) (calls : List Call) : Type 0 where
       → places (finally s calls) guest gpa + closings (history s calls) guest gpa ≡ openings (history s calls) guest gpa
   -- a private or mergeable read is accepted only at an address that was opened before it
   pub opened-before :
-      (past rest : List Made) (read : Made) (guest gpa index value : ℕ)
-      → history s calls ≡ past ++ (read ∷ rest) → event read ≡ reads guest gpa index value
+      (past rest : List Made) (read : Made) (guest gpa index : ℕ)
+      → history s calls ≡ past ++ (read ∷ rest) → event read ≡ reads guest gpa index
       → 1 ≤ openings past guest gpa
   -- "If the address was opened at most once before it, the read returns the guest's own last accepted such write to that word since the
   -- opening, or, where there is none, the word found at the opening", "as memory held it at that call"
   pub kept :
-      (past since rest : List Made) (opening read : Made) (guest gpa frame index value : ℕ)
+      (past since rest : List Made) (opening read : Made) (guest gpa frame index : ℕ)
       → history s calls ≡ past ++ (opening ∷ (since ++ (read ∷ rest)))
-      → event opening ≡ opens guest gpa frame → event read ≡ reads guest gpa index value
+      → event opening ≡ opens guest gpa frame → event read ≡ reads guest gpa index
       → openings (past ++ (opening ∷ since)) guest gpa ≤ 1
-      → value ≡ lastWrite since guest gpa index (wordAt (opening .got) frame index)
+      → read .told ≡ word (lastWrite since guest gpa index (wordAt (opening .got) frame index))
 
 -- demand 3: "for every list of the nine calls of document 01, refused ones among them, from an empty table and any memory"
 abbrev pub Demand3 : Type 0

@@ -3,7 +3,7 @@
 use mathlib.Core.Path.{_≡_, refl}
 use mathlib.Core.List.{map}
 use Rattle.rules.proofs.Computed.{computed}
-use Rattle.rules.specs.History.{Made, history, emptyTable, byAnswer, eventOf, event}
+use Rattle.rules.specs.History.{Made, history, emptyTable, byAnswer, accepted, eventOf, event}
 use Rattle.worked.specs.Script.{start, script, output, events}
 
 pub as-printed : map (λ (m : Made). m .told) (history start script) ≡ output
@@ -11,5 +11,5 @@ unfolding computed history emptyTable start script output
 as-printed = refl
 
 pub as-counted : map event (history start script) ≡ events
-unfolding computed history emptyTable byAnswer eventOf event start script events
+unfolding computed history emptyTable byAnswer accepted eventOf event start script events
 as-counted = refl
