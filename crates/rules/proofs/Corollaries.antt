@@ -12,10 +12,10 @@ use Rattle.entries.specs.Entry.{bit, isGuest, isAddress}
 use Rattle.rules.specs.Answers.{Told, refused, word}
 use Rattle.rules.specs.Balance.{overAddresses, CensusKept}
 use Rattle.rules.specs.Calls.{Call, step}
-use Rattle.rules.specs.History.{emptyTable, Made, history, finally, Event, opens, closes, reads, writes, neither, eventOf, event}
+use Rattle.rules.specs.History.{Made, history, finally, Event, opens, closes, reads, writes, neither, eventOf, event}
 use Rattle.rules.specs.History.{isOpening, isClosing, openings, closings, lastWrite, NoCounterGoesBack}
 use Rattle.rules.specs.Refusals.{BAD-ENTRY, BROKEN-LEAF}
-use Rattle.rules.specs.State.{State, sized, wordAt}
+use Rattle.rules.specs.State.{State, emptyTable, sized, wordAt}
 use Rattle.rules.proofs.CensusLaws.{bit-most, census-bounded, census-answered, no-place, places-together}
 use Rattle.rules.proofs.History.{empty-sound, no-counter-goes-back}
 use Rattle.rules.proofs.HistoryFrom.{finally-sound}
@@ -70,7 +70,7 @@ no-events s (call ∷ rest) guest gpa sound g none =
 pub census-kept :
     (length : ℕ) (memory : List ℕ) (calls : List Call) (guest : ℕ) → sized (emptyTable length memory) ≡ true → isGuest guest ≡ true
     → CensusKept (emptyTable length memory) calls guest
-unfolding overAddresses
+unfolding overAddresses step
 census-kept length memory calls guest size g =
     let start = emptyTable length memory in
     let end = finally start calls in

@@ -12,8 +12,8 @@ use Rattle.entries.specs.declared.entry.Entry.{Entry}
 use Rattle.entries.specs.declared.entry.Decoded.the-variants.{Good}
 use Rattle.entries.proofs.Tells.{false-not-true}
 use Rattle.rules.specs.Census.{nothing, inEntry, holding, placeIn, places}
-use Rattle.rules.specs.History.{emptyTable, Demand3}
-use Rattle.rules.specs.State.{N, entryAt}
+use Rattle.rules.specs.History.{Demand3}
+use Rattle.rules.specs.State.{emptyTable, N, entryAt}
 use Rattle.rules.proofs.HistoryFrom.{runs-on}
 use Rattle.rules.proofs.PlaceLaws.{places-are}
 use Rattle.rules.proofs.Sound.{Sound}
@@ -22,28 +22,24 @@ use Rattle.rules.proofs.Sums.{sum-none}
 
 -- ---- the start
 module _ (length : ℕ) (memory : List ℕ) where
-  empty-entry : (f : ℕ) → f < N (emptyTable length memory) → entryAt (emptyTable length memory) f ≡ Good zeroEntry
-  unfolding emptyTable
-  empty-entry f h = entry-of-empty length memory f h
-
   none-fixed : (f : ℕ) (e : Entry) → entryAt (emptyTable length memory) f ≡ Good e → e .fixed ≡ false
   unfolding zeroEntry entry
   none-fixed f e here =
-      let zero-here = empty-entry f (entry-inside (emptyTable length memory) f e here) in
+      let zero-here = entry-of-empty length memory f (entry-inside (emptyTable length memory) f e here) in
       let same : e ≡ zeroEntry = cc in
       rw same refl
 
   pub empty-sound : Sound (emptyTable length memory)
   empty-sound =
       record {
-        decodes = λ f h bad. let zero-here = empty-entry f h in absurd (false≢true (cc));
+        decodes = λ f h bad. let zero-here = entry-of-empty length memory f h in absurd (false≢true (cc));
         alone = λ f g d e here there fixed k leaf. false-not-true (none-fixed f d here) fixed;
         unbroken = λ f e guest here fixed broken. false-not-true (none-fixed f e here) fixed;
       }
 
   holds-nothing : (guest f : ℕ) → f < N (emptyTable length memory) → holding (emptyTable length memory) guest f ≡ nothing
   unfolding holding inEntry zeroEntry entry pick _and_
-  holds-nothing guest f h = rw (empty-entry f h) refl
+  holds-nothing guest f h = rw (entry-of-empty length memory f h) refl
 
   pub no-place-yet : (guest gpa : ℕ) → places (emptyTable length memory) guest gpa ≡ 0
   unfolding placeIn

@@ -1,7 +1,7 @@
 -- A list of calls from any sound state: places plus closings are the places at the start plus the openings, and a guest with one place at
 -- an address reads there what it found or wrote. By induction on the calls, from what one call does to the places of a guest (Change).
 -- Assumes nothing.
-use mathlib.Core.Path.{_≡_, refl, sym, ap, _∙_}
+use mathlib.Core.Path.{_≡_, refl, sym, ap, subst, _∙_}
 use mathlib.Core.Bool.{true}
 use mathlib.Core.List.{List, [], _∷_, _++_}
 use Prim.Native.Nat.{ℕ, _+_, _≤_}
@@ -13,6 +13,7 @@ use Rattle.rules.specs.Census.{holds, holding, places}
 use Rattle.rules.specs.History.{Made, history, finally, Event, opens, reads, event, isOpening, openings, closings}
 use Rattle.rules.specs.History.{written, lastWrite}
 use Rattle.rules.specs.State.{State, wordAt}
+use Rattle.rules.proofs.AccessChanges.{ReadPlace}
 use Rattle.rules.proofs.Changes.{Whence, old, new, Change}
 use Rattle.rules.proofs.HistoryLists.{opens-here, only-opening, Cut, cut}
 use Rattle.rules.proofs.PlaceLaws.{place-counts, one-place}
@@ -64,10 +65,7 @@ module _ {s u : State} {guest : ℕ} (gpa : ℕ) where
 record ReadIn (s : State) (past : List Made) (guest gpa index : ℕ) (told : Told) : Type 0 where
   earlier : List Call
   past-is : past ≡ history s earlier
-  in-range : isGuest guest ≡ true
-  frame : ℕ
-  here : holding (finally s earlier) guest frame ≡ holds gpa
-  answer : told ≡ word (wordAt (finally s earlier) frame index)
+  from : ReadPlace (finally s earlier) guest gpa index told
 
 -- ---- what holds of a list of calls from a sound state
 pub record RunsOn (s : State) (calls : List Call) : Type 0 where
@@ -131,25 +129,22 @@ read-in s calls past rest read guest gpa index whole e =
     record {
       earlier = c .earlier;
       past-is = c .past-is;
-      in-range = found .range;
-      frame = found .frame;
-      here = found .place;
-      answer = ap (λ m. m .told) (c .this-is) ∙ found .answer;
+      from = subst (ReadPlace _ guest gpa index) (sym (ap (λ m. m .told) (c .this-is))) found;
     }
 
 module _ {s : State} {past : List Made} {guest gpa index : ℕ} {told : Told} (sound : Sound s) (r : ReadIn s past guest gpa index told) where
   -- there is a place to read from, so there was one at the start or an opening since
   read-somewhere : 1 ≤ places s guest gpa + openings past guest gpa
   read-somewhere =
-      let some = place-counts (finally s (r .earlier)) guest gpa (r .frame) (r .here) in
-      rw (r .past-is) (omega (arith, places-over s (r .earlier) guest gpa sound (r .in-range)))
+      let some = place-counts (finally s (r .earlier)) guest gpa (r .from .frame) (r .from .place) in
+      rw (r .past-is) (omega (arith, places-over s (r .earlier) guest gpa sound (r .from .range)))
 
   -- it is the only one still, and holds what was written last
   read-kept :
       (w : ℕ → ℕ) → openings past guest gpa ≡ 0 → Kept s guest gpa w → told ≡ word (lastWrite past guest gpa index (w index))
   read-kept w none kept =
-      let then = kept-over s (r .earlier) guest gpa w sound (r .in-range) (rw (r .past-is) at none) kept in
-      rw (r .past-is) (r .answer ∙ ap word (then .words (r .frame) index (r .here)))
+      let then = kept-over s (r .earlier) guest gpa w sound (r .from .range) (rw (r .past-is) at none) kept in
+      rw (r .past-is) (r .from .answer ∙ ap word (then .words (r .from .frame) index (r .from .place)))
 
 -- a read after an opening, at an address that has no more than one place or opening until then
 read-since :
@@ -163,9 +158,9 @@ read-since {s} {past} {since} {tail} {opening} {guest} {gpa} frame sound c r e m
     let sound-before = finally-sound s (c .earlier) sound in
     let only = only-opening past since opening guest gpa frame (places s guest gpa) e most in
     let none = rw (c .past-is) at (only .1) in
-    let balance = places-over s (c .earlier) guest gpa sound (r .in-range) in
+    let balance = places-over s (c .earlier) guest gpa sound (r .from .range) in
     let vacant : places before guest gpa ≡ 0 = omega (arith, only .0) in
-    let change = rw (rw (c .this-is) at e) at (step-change before guest (c .this) sound-before (r .in-range)) in
+    let change = rw (rw (c .this-is) at e) at (step-change before guest (c .this) sound-before (r .from .range)) in
     rw (c .this-is) (read-kept (step-sound before (c .this) sound-before) r _ (only .2) (kept-opened gpa frame change vacant))
 
 pub runs-on : (s : State) (calls : List Call) → Sound s → RunsOn s calls

@@ -12,7 +12,7 @@ use Rattle.words.specs.Choice.{pick, _and_}
 use Rattle.words.proofs.ChoiceLaws.{true-or-false, pick-false, and-left, and-right}
 use Rattle.entries.specs.Entry.{bit}
 use Rattle.rules.specs.Calls.{Call, step}
-use Rattle.rules.specs.History.{Made, history, finally, Event, opens, closes, reads, writes, neither, event, isOpening, openings}
+use Rattle.rules.specs.History.{Made, made, history, finally, Event, opens, closes, reads, writes, neither, event, isOpening, openings}
 use Rattle.rules.specs.State.{State}
 
 -- ---- counts
@@ -85,9 +85,6 @@ opening-there (m ∷ rest) guest gpa some =
     (true-or-false (isOpening (event m) guest gpa))
 
 -- ---- a list cut at one of its calls
-abbrev pub made : State → Call → Made
-made s call = record { call = call; got = s; told = step s call .told }
-
 pub record Cut (s : State) (past : List Made) (m : Made) (rest : List Made) : Type 0 where
   pub earlier : List Call
   pub this : Call

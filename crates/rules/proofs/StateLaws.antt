@@ -7,7 +7,6 @@ use mathlib.Core.Bool.{true, false}
 use mathlib.Core.List.{List}
 use mathlib.Core.Logic.{_≢_}
 use Prim.Native.Nat.{ℕ, _≤_, _<_}
-use lib.ListN.{replicate}
 use borrow.Author.Tests.{leb-true, ltb-true, ltb-false}
 use Rattle.words.proofs.ChoiceLaws.{and-left, and-right}
 use Rattle.words.proofs.FrameLaws.{count-putWord, count-zeroFrame, count-copyFrame, framed-putWord, framed-zeroFrame, framed-copyFrame}
@@ -18,7 +17,7 @@ use Rattle.entries.specs.declared.entry.Entry.{Entry}
 use Rattle.entries.specs.declared.entry.Decoded.the-variants.{Good}
 use Rattle.entries.proofs.TableLaws.{covered-put, whole-put, entry-put-same, entry-put-other, put-same, entry-good, entry-empty}
 use Rattle.entries.proofs.Tells.{Tells, tells}
-use Rattle.rules.specs.State.{State, state, N, M, sized, covers, entryAt, wordAt, differingAt, withEntry, withWord, withZeros}
+use Rattle.rules.specs.State.{State, emptyTable, N, M, sized, covers, entryAt, wordAt, differingAt, withEntry, withWord, withZeros}
 use Rattle.rules.specs.State.{withCopy}
 
 -- ---- sizes
@@ -133,10 +132,9 @@ module _ (s : State) (f : ℕ) where
 
 -- "Empty table: all words zero": every frame is SHARED
 pub entry-of-empty :
-    (k : ℕ) (memory : List ℕ) (f : ℕ) → f < N (state (replicate k 0) memory)
-    → entryAt (state (replicate k 0) memory) f ≡ Good zeroEntry
-unfolding entryAt N
-entry-of-empty k memory f h = entry-empty k f h
+    (length : ℕ) (memory : List ℕ) (f : ℕ) → f < N (emptyTable length memory) → entryAt (emptyTable length memory) f ≡ Good zeroEntry
+unfolding emptyTable entryAt N
+entry-of-empty length memory f h = entry-empty length f h
 
 -- ---- words
 module _ (s : State) (f : ℕ) where

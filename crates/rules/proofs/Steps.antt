@@ -11,16 +11,16 @@ use Rattle.entries.specs.declared.entry.Decoded.the-variants.{Good}
 use Rattle.entries.proofs.Tells.{validated-is}
 use Rattle.rules.specs.Access.{read}
 use Rattle.rules.specs.Answers.{Told, refused, done, none, closed, opened, already, Outcome, outcome}
-use Rattle.rules.specs.Assignment.{assigning, updateAnswer, validating, validateAnswer, pvalidate}
+use Rattle.rules.specs.Assignment.{updateAnswer, validating, validateAnswer, pvalidate}
 use Rattle.rules.specs.Calls.{Call, RMPUPDATE, PVALIDATE, PFIX, PMERGE, PUNMERGE, PUNFIX, READ, WRITE, CENSUS, step}
 use Rattle.rules.specs.Census.{census}
-use Rattle.rules.specs.Merging.{fixing, merging, unmerging, unfixing}
-use Rattle.rules.specs.State.{State, entryAt, withZeros}
+use Rattle.rules.specs.State.{State, entryAt}
+use Rattle.rules.proofs.Effects.{assigning-does, validating-does, fixing-does, merging-does, unmerging-does, unfixing-does}
 use Rattle.rules.proofs.Passed.{rmpupdate-cases, pvalidate-cases, pfix-cases, pmerge-cases, punmerge-cases, punfix-cases}
 use Rattle.rules.proofs.Passed.{read-cases}
 use Rattle.rules.proofs.Passed.{write-cases, census-cases}
 use Rattle.rules.proofs.Reason.{Reason}
-use Rattle.rules.proofs.StateLaws.{same-entry, SameSize, size-refl, size-trans, size-entry, size-word, size-zeros, size-copy}
+use Rattle.rules.proofs.StateLaws.{same-entry, SameSize, size-refl, size-word}
 
 -- ---- a refusal changes nothing, and has a reason
 abbrev Kept : State → Outcome → Type 0
@@ -104,51 +104,22 @@ already-keeps s caller gpa hpa kind =
     (λ old p h. validated-again s _ old (p .here) (answered-already old h))
 
 -- ---- no call changes a size
-size-cleared : (s : State) (frame : ℕ) (t : Bool) → SameSize s (pick t s (withZeros s frame))
-unfolding pick
-size-cleared s frame true = size-refl s
-size-cleared s frame false = size-zeros s frame
-
-size-assigning : (s : State) (frame : ℕ) (old : Entry) (gpa asid kind : ℕ) → SameSize s (assigning s frame old gpa asid kind)
-unfolding assigning
-size-assigning s frame old gpa asid kind = size-trans (size-cleared s frame _) (size-entry _ _ _)
-
-size-validating : (s : State) (frame : ℕ) (old : Entry) → SameSize s (validating s frame old)
-unfolding validating
-size-validating s frame old = size-entry s frame _
-
-size-fixing : (s : State) (frame : ℕ) (old : Entry) (leaf : ℕ) → SameSize s (fixing s frame old leaf)
-unfolding fixing
-size-fixing s frame old leaf = size-trans (size-zeros s _) (size-trans (size-word _ _ _ _) (size-entry _ _ _))
-
-size-merging : (s : State) (one : Entry) (frame2 : ℕ) (two : Entry) → SameSize s (merging s one frame2 two)
-unfolding merging
-size-merging s one frame2 two = size-trans (size-word s _ _ _) (size-trans (size-zeros _ _) (size-entry _ _ _))
-
-size-unmerging : (s : State) (frame1 : ℕ) (one : Entry) (frame2 asid gpa : ℕ) → SameSize s (unmerging s frame1 one frame2 asid gpa)
-unfolding unmerging
-size-unmerging s frame1 one frame2 asid gpa = size-trans (size-copy s _ _) (size-trans (size-entry _ _ _) (size-word _ _ _ _))
-
-size-unfixing : (s : State) (frame : ℕ) (old : Entry) (gpa : ℕ) → SameSize s (unfixing s frame old gpa)
-unfolding unfixing
-size-unfixing s frame old gpa = size-trans (size-entry s _ _) (size-trans (size-entry _ _ _) (size-zeros _ _))
-
 pub step-size : (s : State) (c : Call) → SameSize s (step s c .after)
 unfolding step
 step-size s (RMPUPDATE caller hpa gpa asid kind) =
     rmpupdate-cases (λ o. SameSize s (o .after)) s (λ n why. size-refl s) caller hpa gpa asid kind
-    (λ old p. size-assigning s _ old gpa asid kind)
+    (λ old p. assigning-does s caller hpa gpa asid kind old p .put .same-size)
 step-size s (PVALIDATE caller gpa hpa kind) =
-    pvalidate-cases (λ o. SameSize s (o .after)) s (λ n why. size-refl s) caller gpa hpa kind (λ old p. size-validating s _ old)
+    pvalidate-cases (λ o. SameSize s (o .after)) s (λ n why. size-refl s) caller gpa hpa kind (λ old p. validating-does s caller gpa hpa kind old p .put .same-size)
 step-size s (PFIX caller hpa leaf) =
-    pfix-cases (λ o. SameSize s (o .after)) s (λ n why. size-refl s) caller hpa leaf (λ old p. size-fixing s _ old leaf)
+    pfix-cases (λ o. SameSize s (o .after)) s (λ n why. size-refl s) caller hpa leaf (λ old p. fixing-does s caller hpa leaf old p .put .same-size)
 step-size s (PMERGE caller hpa1 hpa2) =
-    pmerge-cases (λ o. SameSize s (o .after)) s (λ n why. size-refl s) caller hpa1 hpa2 (λ one two p. size-merging s one _ two)
+    pmerge-cases (λ o. SameSize s (o .after)) s (λ n why. size-refl s) caller hpa1 hpa2 (λ one two p. merging-does s caller hpa1 hpa2 one two p .put .same-size)
 step-size s (PUNMERGE caller hpa1 hpa2 asid) =
     punmerge-cases (λ o. SameSize s (o .after)) s (λ n why. size-refl s) caller hpa1 hpa2 asid
-    (λ one two gpa p. size-unmerging s _ one _ asid gpa)
+    (λ one two gpa p. unmerging-does s caller hpa1 hpa2 asid one two gpa p .put .same-size)
 step-size s (PUNFIX caller hpa) =
-    punfix-cases (λ o. SameSize s (o .after)) s (λ n why. size-refl s) caller hpa (λ old gpa p. size-unfixing s _ old gpa)
+    punfix-cases (λ o. SameSize s (o .after)) s (λ n why. size-refl s) caller hpa (λ old gpa p. unfixing-does s caller hpa old gpa p .same-size)
 step-size s (READ caller gpa hpa gtype ntype index) = rw (read-keeps s caller gpa hpa gtype ntype index) (size-refl s)
 step-size s (WRITE caller gpa hpa gtype ntype index value) =
     write-cases (λ o. SameSize s (o .after)) s (λ n why. size-refl s) caller gpa hpa gtype ntype index value (λ p. size-word s _ _ _)

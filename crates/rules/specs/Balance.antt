@@ -6,8 +6,8 @@ use mathlib.Core.List.{List}
 use Prim.Native.Nat.{ℕ, zero, suc, _+_, _≤_}
 use Rattle.entries.specs.Entry.{addressLimit, isAddress}
 use Rattle.rules.specs.Answers.{count, outcome}
-use Rattle.rules.specs.Calls.{Call}
-use Rattle.rules.specs.Census.{places, census}
+use Rattle.rules.specs.Calls.{Call, CENSUS, step}
+use Rattle.rules.specs.Census.{places}
 use Rattle.rules.specs.History.{history, finally, openings, closings}
 use Rattle.rules.specs.State.{State, N}
 
@@ -23,7 +23,7 @@ overAddresses t = sum t addressLimit
 pub record CensusKept (s : State) (calls : List Call) (guest : ℕ) : Type 0 where
   -- "Answer: the number of places of this guest."
   pub answered :
-      census (finally s calls) guest ≡ outcome (count (overAddresses (places (finally s calls) guest))) (finally s calls)
+      step (finally s calls) (CENSUS guest) ≡ outcome (count (overAddresses (places (finally s calls) guest))) (finally s calls)
   -- "The census of a guest is never more than N."
   pub bounded : overAddresses (places (finally s calls) guest) ≤ N (finally s calls)
   -- "places plus closings are exactly the openings", at all addresses together

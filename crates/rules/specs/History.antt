@@ -4,17 +4,12 @@ use mathlib.Core.Bool.{Bool, true, false}
 use mathlib.Core.List.{List, [], _∷_, _++_}
 use Prim.Native.Nat.{ℕ, _+_, _≤_}
 use lib.Dec.{eqb}
-use lib.ListN.{replicate}
 use Rattle.words.specs.Choice.{pick, _and_}
 use Rattle.entries.specs.Entry.{frameOf, isGuest, isOwned, bit}
 use Rattle.rules.specs.Answers.{Told, refused, done, none, closed, opened, already, word, count}
 use Rattle.rules.specs.Calls.{Call, RMPUPDATE, PVALIDATE, PFIX, PMERGE, PUNMERGE, PUNFIX, READ, WRITE, CENSUS, step}
 use Rattle.rules.specs.Census.{places}
-use Rattle.rules.specs.State.{State, state, wordAt}
-
--- "The table starts empty and memory holds anything." "Empty table: all words zero."
-unfoldable pub emptyTable : ℕ → List ℕ → State
-emptyTable length memory = state (replicate length 0) memory
+use Rattle.rules.specs.State.{State, emptyTable, wordAt}
 
 -- a call as it was made: with the table and memory that it got, and its answer
 pub record Made : Type 0 where
@@ -22,10 +17,13 @@ pub record Made : Type 0 where
   pub got : State
   pub told : Told
 
+abbrev pub made : State → Call → Made
+made s call = record { call = call; got = s; told = step s call .told }
+
 -- "Each call gets both as the call before left them": a list of calls as they were made, and table and memory after them
 unfoldable pub history : State → List Call → List Made
 history s [] = []
-history s (call ∷ rest) = record { call = call; got = s; told = step s call .told } ∷ history (step s call .after) rest
+history s (call ∷ rest) = made s call ∷ history (step s call .after) rest
 
 unfoldable pub finally : State → List Call → State
 finally s [] = s

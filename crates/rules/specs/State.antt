@@ -4,6 +4,7 @@ use mathlib.Core.Bool.{Bool}
 use mathlib.Core.List.{List}
 use Prim.Native.Nat.{ℕ}
 use lib.Dec.{leb, ltb}
+use lib.ListN.{replicate}
 use Rattle.words.specs.Choice.{_and_}
 use Rattle.words.specs.Frame.{frameCount, isFramed, wordIn, putWord, zeroFrame, copyFrame, differingIn}
 use Rattle.entries.specs.Entry.{frameOf}
@@ -17,6 +18,10 @@ pub record State : Type 0 where
 
 abbrev pub state : List ℕ → List ℕ → State
 state table memory = record { table = table; memory = memory }
+
+-- "Empty table: all words zero. Memory may hold anything."
+unfoldable pub emptyTable : ℕ → List ℕ → State
+emptyTable length memory = state (replicate length 0) memory
 
 -- N, the frames that the table covers, and M, the frames of memory
 unfoldable pub N : State → ℕ

@@ -3,7 +3,8 @@
 use mathlib.Core.Path.{_≡_, refl}
 use mathlib.Core.List.{map}
 use Rattle.rules.proofs.Computed.{computed}
-use Rattle.rules.specs.History.{Made, history, emptyTable, byAnswer, accepted, eventOf, event}
+use Rattle.rules.specs.History.{Made, history, byAnswer, accepted, eventOf, event}
+use Rattle.rules.specs.State.{emptyTable}
 use Rattle.worked.specs.Script.{start, script, output, events}
 
 pub as-printed : map (λ (m : Made). m .told) (history start script) ≡ output

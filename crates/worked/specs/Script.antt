@@ -4,8 +4,8 @@ use mathlib.Core.List.{List, [], _∷_}
 use lib.ListN.{replicate}
 use Rattle.rules.specs.Answers.{Told, refused, done, none, closed, opened, word, count}
 use Rattle.rules.specs.Calls.{Call, RMPUPDATE, PVALIDATE, PFIX, PMERGE, PUNMERGE, PUNFIX, READ, WRITE, CENSUS}
-use Rattle.rules.specs.History.{Event, opens, closes, reads, writes, neither, emptyTable}
-use Rattle.rules.specs.State.{State}
+use Rattle.rules.specs.History.{Event, opens, closes, reads, writes, neither}
+use Rattle.rules.specs.State.{State, emptyTable}
 
 -- "an empty table with N = 8, M = 10 and zeroed memory"
 unfoldable pub start : State
