@@ -1,7 +1,7 @@
 -- READ changes nothing and answers a word of a place of its caller, where it is private or mergeable; WRITE changes a word of one place of
 -- its caller, or of a frame that is nobody's place.
 -- Assumes nothing.
-use mathlib.Core.Path.{_≡_, refl, sym, _∙_}
+use mathlib.Core.Path.{_≡_, sym, _∙_}
 use mathlib.Core.Bool.{Bool, true, false, false≢true}
 use mathlib.Core.Logic.{_≢_, ⊎-elim}
 use Prim.Native.Nat.{ℕ, _≤_}
@@ -15,18 +15,18 @@ use Rattle.entries.proofs.Tells.{in-range, false-not-true}
 use Rattle.rules.specs.Answers.{Told, done, word}
 use Rattle.rules.specs.Calls.{READ, WRITE}
 use Rattle.rules.specs.Census.{holds, nothing, holding, places}
-use Rattle.rules.specs.History.{reads, writes, neither, byAnswer, accepted, eventOf, isOpening, isClosing, written}
+use Rattle.rules.specs.History.{reads, writes, noEvent, byAnswer, accepted, eventOf, isOpening, isClosing, written}
 use Rattle.rules.specs.State.{State, wordAt, withWord}
 use Rattle.rules.proofs.ArgumentLaws.{access-tells, guest-access}
 use Rattle.rules.proofs.Changes.{old, Change}
 use Rattle.rules.proofs.Consulted.{written-consulted}
 use Rattle.rules.proofs.Holdings.{present-there, holding-same, of-another, of-its-own, nobodys}
-use Rattle.rules.proofs.MergingChanges.{shared-unowned}
+use Rattle.rules.proofs.Leaves.{shared-unowned}
 use Rattle.rules.proofs.Passed.{Way, above, shared, own, merged, Accessed}
-use Rattle.rules.proofs.PlaceLaws.{holding-inside, one-place}
+use Rattle.rules.proofs.PlaceLaws.{holding-inside, one-place, place-apart, one-address}
 use Rattle.rules.proofs.Sound.{Sound}
 use Rattle.rules.proofs.StateLaws.{size-word, entry-tells, entry-after-word, word-after-word, word-elsewhere, word-beside}
-use Rattle.rules.proofs.Ways.{place-apart, one-address, places-same, stays, unchanged, only-read}
+use Rattle.rules.proofs.PlaceChanges.{places-same, stays, unchanged, only-read}
 
 -- ---- READ
 pub read-change :
@@ -86,7 +86,7 @@ read-of-place s caller gpa hpa gtype ntype index p guest at place =
         }
 
     owned : isOwned gtype ≡ true
-        → pick (isOwned gtype) (reads caller gpa index) neither ≡ reads guest at place
+        → pick (isOwned gtype) (reads caller gpa index) noEvent ≡ reads guest at place
         → ReadPlace s guest at place (word (wordAt s (frameOf hpa) index))
     owned o h = named o (sym (pick-true _ _ o) ∙ h)
 
@@ -128,7 +128,7 @@ module _ (s : State) (sound : Sound s) (caller gpa hpa gtype ntype index value :
       false-not-true o (rw (← k) (entry-tells s _ e here .validated-owned v))
   shared-off (merged e l here k t x r c) o f at h same = absurd (false≢true (sym r))
 
-  shared-change : isOwned gtype ≡ false → Change s writtenNow neither guest
+  shared-change : isOwned gtype ≡ false → Change s writtenNow noEvent guest
   shared-change o =
       stays s writtenNow guest (size-word s _ index value .same-N) still
       (λ f at i h. word-elsewhere s _ index value f i (shared-off (p .way) o f at h))

@@ -10,10 +10,10 @@ use lib.Dec.{eqb}
 use borrow.Author.Tests.{leb-true, eqb-true, eqb-false, not-true}
 use Rattle.words.specs.Choice.{_or_}
 use Rattle.words.proofs.ChoiceLaws.{and-left, and-right, or-cases}
-use Rattle.entries.specs.Entry.{SHARED, MERGEABLE, LEAF, isAddress, isParty, isGuest, isOwned, isUnowned, entry, wellFormed}
+use Rattle.entries.specs.Entry.{SHARED, LEAF, isAddress, isParty, isGuest, isOwned, isUnowned, entry, wellFormed}
 use Rattle.entries.proofs.Tells.{unowned-fits, page-fits, false-not-true}
-use Rattle.rules.specs.Arguments.{isHost, updateArguments, validateArguments, twoFrameArguments, unmergeArguments}
-use Rattle.rules.specs.Arguments.{oneFrameArguments, accessArguments, mayAccess}
+use Rattle.rules.specs.Arguments.{isHost, updateArguments, validateArguments, twoFrameArguments, unmergeArguments, accessArguments}
+use Rattle.rules.specs.Arguments.{mayAccess}
 
 party-small : (asid : ℕ) → isParty asid ≡ true → asid < 512
 unfolding isParty
@@ -100,17 +100,11 @@ module _ (caller hpa1 hpa2 : ℕ) where
   unfolding unmergeArguments
   unmerge-tells asid h = let a = two-addresses (and-left _ _ h) in (a .0, a .1, and-right _ _ h)
 
-  pub one-address : oneFrameArguments caller hpa1 ≡ true → isAddress hpa1 ≡ true
-  unfolding oneFrameArguments
-  one-address h = and-right _ _ h
-
 -- ---- READ and WRITE
 pub record AccessTells (caller gpa hpa gtype ntype index : ℕ) : Type 0 where
   pub caller-small : caller < 512
   pub guest-address : isAddress gpa ≡ true
   pub frame-address : isAddress hpa ≡ true
-  pub gtype-small : gtype ≤ MERGEABLE
-  pub ntype-small : ntype ≤ MERGEABLE
   pub index-small : index < 512
 
 module _ (caller gpa hpa gtype ntype index : ℕ) where
@@ -126,8 +120,6 @@ module _ (caller gpa hpa gtype ntype index : ℕ) where
         caller-small = party-small caller (and-left _ _ h1);
         guest-address = and-right _ _ h1;
         frame-address = and-right _ _ h2;
-        gtype-small = leb-true _ _ (and-right _ _ h3);
-        ntype-small = leb-true _ _ (and-right _ _ h4);
         index-small = omega arith;
       }
 

@@ -12,16 +12,17 @@ use Rattle.entries.specs.declared.entry.Entry.{Entry}
 use Rattle.rules.specs.Assignment.{assigning, updateAnswer, validating, validateAnswer}
 use Rattle.rules.specs.Calls.{RMPUPDATE, PVALIDATE}
 use Rattle.rules.specs.Census.{holds, nothing, holding, placeIn}
-use Rattle.rules.specs.History.{opens, closes, neither, byAnswer, eventOf, isOpening, isClosing, written}
+use Rattle.rules.specs.History.{opens, closes, noEvent, byAnswer, eventOf, isOpening, isClosing, written}
 use Rattle.rules.specs.State.{State}
 use Rattle.rules.proofs.Changes.{Whence, old, new, Change}
 use Rattle.rules.proofs.Consulted.{assigned-consulted, validated-consulted}
 use Rattle.rules.proofs.Effects.{Assigns, assigning-does, Validates, validating-does}
 use Rattle.rules.proofs.Holdings.{holding-same, unopened, of-another, of-its-own}
 use Rattle.rules.proofs.Passed.{Updated, Validated}
+use Rattle.rules.proofs.PlaceLaws.{place-apart, one-address, nothing-counts, page-counts}
 use Rattle.rules.proofs.Sound.{Sound}
 use Rattle.rules.proofs.Steps.{validated-again}
-use Rattle.rules.proofs.Ways.{place-apart, one-address, nothing-counts, page-counts, places-one, stays, unchanged}
+use Rattle.rules.proofs.PlaceChanges.{places-one, stays, unchanged}
 
 -- ---- RMPUPDATE
 module _ (s : State) (sound : Sound s) (caller hpa gpa asid kind : ℕ) (before : Entry) (p : Updated s caller hpa gpa asid kind before)
@@ -55,7 +56,7 @@ module _ (s : State) (sound : Sound s) (caller hpa gpa asid kind : ℕ) (before 
             old f (sym (update-beside f off) ∙ h) (λ i. update-effect .words f i off);
       }
 
-  unclosed-change : before .validated ≡ false → Change s updated neither guest
+  unclosed-change : before .validated ≡ false → Change s updated noEvent guest
   unclosed-change v =
       stays s updated guest (update-effect .put .same-size .same-N)
       (λ f. ⊎-elim (λ here. rw here (update-left ∙ sym was)) (update-beside f) (same-or-not f (frameOf hpa)))

@@ -2,8 +2,7 @@
 -- since a place is at one address; and no guest has more of them than the table has frames, since a frame is one place or none.
 -- Assumes nothing.
 use mathlib.Core.Path.{_≡_, refl, sym, _∙_}
-use mathlib.Core.Bool.{Bool, true, false}
-use mathlib.Core.Logic.{_≢_}
+use mathlib.Core.Bool.{true, false}
 use Prim.Native.Nat.{ℕ, zero, suc, _+_, _≤_, _<_}
 use native.Mathlib.Nat.{le-refl}
 use native.Mathlib.Omega.{arith}
@@ -11,32 +10,21 @@ use lib.Dec.{eqb}
 use borrow.Author.Tests.{eq-eqb, ne-eqb}
 use Rattle.words.specs.Choice.{pick}
 use Rattle.words.proofs.ChoiceLaws.{pick-true, pick-false}
-use Rattle.entries.specs.Entry.{bit, isGuest, isAddress}
+use Rattle.entries.specs.Entry.{isGuest, isAddress}
 use Rattle.entries.proofs.LeafLaws.{address-small}
 use Rattle.entries.proofs.Tells.{false-not-true}
 use Rattle.rules.specs.Answers.{count, outcome, settle, unless}
 use Rattle.rules.specs.Balance.{sum, overAddresses}
-use Rattle.rules.specs.Census.{Holding, holds, nothing, fails, holding, placeIn, places, total, counted, tally, reported}
-use Rattle.rules.specs.Census.{census}
+use Rattle.rules.specs.Census.{Holding, holds, nothing, fails, holding, placeIn, places, total, counted, tally, reported, census}
 use Rattle.rules.specs.State.{State, N, sized}
 use Rattle.rules.proofs.Holdings.{holding-address}
 use Rattle.rules.proofs.Never.{sound-faultless}
-use Rattle.rules.proofs.PlaceLaws.{places-are}
+use Rattle.rules.proofs.PlaceLaws.{places-are, unplaced}
 use Rattle.rules.proofs.Reason.{holding-fails}
 use Rattle.rules.proofs.Sound.{Sound}
-use Rattle.rules.proofs.Sums.{sum-same, sum-none, sum-single, sum-swap}
+use Rattle.rules.proofs.Sums.{sum-same, sum-none, sum-single, sum-swap, sum-most}
 
 -- ---- no more places than frames
-sum-most : (t : ℕ → ℕ) (n : ℕ) → ((i : ℕ) → t i ≤ 1) → sum t n ≤ n
-unfolding sum
-sum-most t zero h = omega arith
-sum-most t (suc n) h = omega (arith, sum-most t n h, h n)
-
-pub bit-most : (b : Bool) → bit b ≤ 1
-unfolding bit pick
-bit-most true = omega arith
-bit-most false = omega arith
-
 -- a place, at whatever address, as 1; and how many a guest has
 unfoldable pub one : Holding → ℕ
 one (holds gpa) = 1
@@ -76,13 +64,6 @@ module _ (s : State) (sound : Sound s) (guest : ℕ) where
   census-answered size is-guest = rw (size, is-guest, tally-total (N s) (le-refl _))
 
 -- ---- the places at all addresses together
--- what is no address has none of them
-unplaced : (h : Holding) (gpa : ℕ) → h ≢ holds gpa → placeIn h gpa ≡ 0
-unfolding placeIn
-unplaced (holds here) gpa other = pick-false _ _ (ne-eqb here gpa (λ e. other (rw e)))
-unplaced nothing gpa other = refl
-unplaced (fails number) gpa other = refl
-
 pub no-place : (s : State) (guest gpa : ℕ) → isAddress gpa ≡ false → places s guest gpa ≡ 0
 no-place s guest gpa none =
     places-are s guest gpa

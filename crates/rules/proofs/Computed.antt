@@ -4,15 +4,13 @@ use Rattle.words.specs.Choice.{pick, _and_, _or_}
 use Rattle.words.specs.Frame.{frameCount, isFramed, wordIn, putWord, zeroFrame, copyFrame, differingIn}
 use Rattle.words.specs.Run.{part, pasted, copiedWithin, differing}
 use Rattle.entries.specs.Entry.{isAddress, frameOf, isParty, isGuest, isOwned, isUnowned, entry, zeroEntry, asidFits, flagsFit}
-use Rattle.entries.specs.Entry.{addressFits, wellFormed, fields, decoded}
-use Rattle.entries.specs.Entry.{bit, encoded, toValidated, toFixed, toUnfixed}
+use Rattle.entries.specs.Entry.{addressFits, wellFormed, fields, decoded, bit, encoded, toValidated, toFixed, toUnfixed}
 use Rattle.entries.specs.Leaf.{leafWord, presentAt}
 use Rattle.entries.specs.Table.{covered, isWhole, entryIn, putEntry}
 use Rattle.rules.specs.Access.{unfixedAccess, fixedAccess, coveredAccess, access, read, write}
 use Rattle.rules.specs.Answers.{Outcome, settle, unless, when, begins, entered}
 use Rattle.rules.specs.Arguments.{isHost, updateArguments, validateArguments, twoFrameArguments, unmergeArguments}
-use Rattle.rules.specs.Arguments.{oneFrameArguments}
-use Rattle.rules.specs.Arguments.{accessArguments, mayAccess}
+use Rattle.rules.specs.Arguments.{oneFrameArguments, accessArguments, mayAccess}
 use Rattle.rules.specs.Assignment.{assigning, updateAnswer, rmpupdate, validating, validateAnswer, pvalidate}
 use Rattle.rules.specs.Calls.{Call, step}
 use Rattle.rules.specs.Census.{inLeaf, inEntry, holding, counted, tally, reported, census}

@@ -10,16 +10,16 @@ use native.Mathlib.Omega.{arith}
 use Rattle.words.specs.Choice.{pick}
 use Rattle.entries.specs.Entry.{bit, isGuest, isAddress}
 use Rattle.rules.specs.Answers.{Told, refused, word}
-use Rattle.rules.specs.Balance.{overAddresses, CensusKept}
+use Rattle.rules.specs.Balance.{overAddresses, CensusClaim}
 use Rattle.rules.specs.Calls.{Call, step}
-use Rattle.rules.specs.History.{Made, history, finally, Event, opens, closes, reads, writes, neither, eventOf, event}
-use Rattle.rules.specs.History.{isOpening, isClosing, openings, closings, lastWrite, NoCounterGoesBack}
+use Rattle.rules.specs.History.{Made, history, finally, Event, opens, closes, reads, writes, noEvent, eventOf, event, isOpening}
+use Rattle.rules.specs.History.{isClosing, openings, closings, lastWrite, NoCounterGoesBack}
 use Rattle.rules.specs.Refusals.{BAD-ENTRY, BROKEN-LEAF}
-use Rattle.rules.specs.State.{State, emptyTable, sized, wordAt}
-use Rattle.rules.proofs.CensusLaws.{bit-most, census-bounded, census-answered, no-place, places-together}
+use Rattle.rules.specs.State.{State, emptyTable, wordAt}
+use Rattle.rules.proofs.CensusLaws.{census-bounded, census-answered, no-place, places-together}
 use Rattle.rules.proofs.History.{empty-sound, no-counter-goes-back}
 use Rattle.rules.proofs.HistoryFrom.{finally-sound}
-use Rattle.rules.proofs.HistoryLists.{cut, Opened, opening-there}
+use Rattle.rules.proofs.HistoryLists.{cut, Opened, opening-there, bit-most}
 use Rattle.rules.proofs.Never.{sound-never}
 use Rattle.rules.proofs.Sound.{Sound}
 use Rattle.rules.proofs.SoundSteps.{step-sound}
@@ -53,7 +53,7 @@ one-event (opens who at frame) guest gpa = omega (arith, bit-most (isOpening (op
 one-event (closes who at) guest gpa = omega (arith, bit-most (isClosing (closes who at) guest gpa))
 one-event (reads who at index) guest gpa = omega arith
 one-event (writes who at index value) guest gpa = omega arith
-one-event neither guest gpa = omega arith
+one-event noEvent guest gpa = omega arith
 
 -- at what is no address nothing opens or closes: there is no place there before a call, nor after it
 no-events :
@@ -67,9 +67,7 @@ no-events s (call ∷ rest) guest gpa sound g none =
     let balance = step-change s guest call sound g .balance gpa in
     omega (arith, balance, one-event (eventOf call (step s call .told)) guest gpa, no-place s guest gpa none, no-place after guest gpa none)
 
-pub census-kept :
-    (length : ℕ) (memory : List ℕ) (calls : List Call) (guest : ℕ) → sized (emptyTable length memory) ≡ true → isGuest guest ≡ true
-    → CensusKept (emptyTable length memory) calls guest
+pub census-kept : CensusClaim
 unfolding overAddresses step
 census-kept length memory calls guest size g =
     let start = emptyTable length memory in

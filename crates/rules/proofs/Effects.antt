@@ -2,7 +2,7 @@
 -- laws of the state; nothing here knows of guests' places. Proofs about calls cite these and open no change.
 -- Assumes nothing.
 use mathlib.Core.Path.{_≡_, refl, sym, _∙_}
-use mathlib.Core.Bool.{Bool, true, false, false≢true}
+use mathlib.Core.Bool.{Bool, true, false}
 use mathlib.Core.Logic.{_≢_}
 use Prim.Native.Nat.{ℕ, _<_}
 use native.Mathlib.Omega.{arith}
@@ -12,22 +12,18 @@ use Rattle.entries.specs.Entry.{toUnfixed}
 use Rattle.entries.specs.Leaf.{presentAt}
 use Rattle.entries.specs.declared.entry.Entry.{Entry}
 use Rattle.entries.specs.declared.entry.Decoded.the-variants.{Good}
-use Rattle.entries.specs.declared.leaf.LeafWord.{LeafWord}
-use Rattle.entries.specs.declared.leaf.LeafWord.the-variants.{Absent, Present, Misshapen}
 use Rattle.entries.proofs.Tells.{page-fits, fixed-fits, unowned-fits, guest-range}
 use Rattle.rules.specs.Assignment.{assigning, validating}
 use Rattle.rules.specs.Leaves.{leafFrame, isLeaf}
 use Rattle.rules.specs.Merging.{fixing, merging, unmerging, unfixing}
 use Rattle.rules.specs.State.{State, N, M, entryAt, wordAt, withEntry, withWord, withZeros, withCopy}
 use Rattle.rules.proofs.ArgumentLaws.{update-fits, validate-tells, two-addresses, unmerge-tells}
-use Rattle.rules.proofs.Leaves.{is-a-leaf, consulted-address, leaf-apart, not-a-leaf, leaf-inside}
+use Rattle.rules.proofs.Leaves.{is-a-leaf, consulted-address, leaf-apart, not-a-leaf, leaf-inside, from-absent, from-present}
 use Rattle.rules.proofs.Passed.{Updated, Validated, Fixed, Merged, Unmerged, Unfixed}
 use Rattle.rules.proofs.StateLaws.{SameSize, size-refl, size-trans, size-entry, size-word, size-zeros, size-copy, sizes}
-use Rattle.rules.proofs.StateLaws.{entry-tells}
-use Rattle.rules.proofs.StateLaws.{entry-after-entry, entry-elsewhere, entry-after-word, entry-after-zeros, entry-after-copy}
-use Rattle.rules.proofs.StateLaws.{word-after-entry, word-after-word, word-elsewhere, word-beside, word-after-zeros}
-use Rattle.rules.proofs.StateLaws.{word-beside-zeros}
-use Rattle.rules.proofs.StateLaws.{word-after-copy, word-beside-copy}
+use Rattle.rules.proofs.StateLaws.{entry-tells, entry-after-entry, entry-elsewhere, entry-after-word, entry-after-zeros}
+use Rattle.rules.proofs.StateLaws.{entry-after-copy, word-after-entry, word-after-word, word-elsewhere, word-beside}
+use Rattle.rules.proofs.StateLaws.{word-after-zeros, word-beside-zeros, word-after-copy, word-beside-copy}
 
 -- one entry is another, and every other is as it was
 pub record Put (s u : State) (f : ℕ) (e : Entry) : Type 0 where
@@ -153,12 +149,6 @@ fixing-does s caller hpa leaf old p =
     })
 
 -- ---- PMERGE, PUNMERGE and PUNFIX: the word that was consulted is in a LEAF, which is none of the named frames
-pub from-absent : {w : LeafWord} → w ≡ Absent → w ≡ Misshapen → ⊥
-from-absent h k = absurd (false≢true (cc))
-
-pub from-present : {w : LeafWord} {gpa : ℕ} → w ≡ Present gpa → w ≡ Misshapen → ⊥
-from-present h k = absurd (false≢true (cc))
-
 zero-fits : (n : ℕ) → wellFormed n zeroEntry ≡ true
 unfolding zeroEntry isUnowned _or_
 zero-fits n = unowned-fits n SHARED refl

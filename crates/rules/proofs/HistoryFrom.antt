@@ -10,8 +10,8 @@ use Rattle.entries.specs.Entry.{isGuest, bit}
 use Rattle.rules.specs.Answers.{Told, word}
 use Rattle.rules.specs.Calls.{Call, step}
 use Rattle.rules.specs.Census.{holds, holding, places}
-use Rattle.rules.specs.History.{Made, history, finally, Event, opens, reads, event, isOpening, openings, closings}
-use Rattle.rules.specs.History.{written, lastWrite}
+use Rattle.rules.specs.History.{Made, history, finally, Event, opens, reads, event, isOpening, openings, closings, written}
+use Rattle.rules.specs.History.{lastWrite}
 use Rattle.rules.specs.State.{State, wordAt}
 use Rattle.rules.proofs.AccessChanges.{ReadPlace}
 use Rattle.rules.proofs.Changes.{Whence, old, new, Change}

@@ -12,7 +12,7 @@ use Rattle.words.specs.Choice.{pick, _and_}
 use Rattle.words.proofs.ChoiceLaws.{true-or-false, pick-false, and-left, and-right}
 use Rattle.entries.specs.Entry.{bit}
 use Rattle.rules.specs.Calls.{Call, step}
-use Rattle.rules.specs.History.{Made, made, history, finally, Event, opens, closes, reads, writes, neither, event, isOpening, openings}
+use Rattle.rules.specs.History.{Made, made, history, finally, Event, opens, closes, reads, writes, noEvent, event, isOpening, openings}
 use Rattle.rules.specs.State.{State}
 
 -- ---- counts
@@ -22,7 +22,12 @@ unfolding openings
 openings-append [] rest guest gpa = omega arith
 openings-append (m ∷ past) rest guest gpa = let tail = openings-append past rest guest gpa in omega arith
 
--- an opening counts one
+-- an event counts at most one, and an opening one
+pub bit-most : (b : Bool) → bit b ≤ 1
+unfolding bit pick
+bit-most true = omega arith
+bit-most false = omega arith
+
 pub opens-here : (guest gpa frame : ℕ) → bit (isOpening (opens guest gpa frame) guest gpa) ≡ 1
 unfolding isOpening bit pick _and_
 opens-here guest gpa frame = rw (eq-eqb guest guest refl, eq-eqb gpa gpa refl)
@@ -54,7 +59,7 @@ is-opening (opens who at frame) guest gpa h =
 is-opening (closes who at) guest gpa h = absurd (false≢true h)
 is-opening (reads who at index) guest gpa h = absurd (false≢true h)
 is-opening (writes who at index value) guest gpa h = absurd (false≢true h)
-is-opening neither guest gpa h = absurd (false≢true h)
+is-opening noEvent guest gpa h = absurd (false≢true h)
 
 uncounted : {t : Bool} → t ≡ false → bit t ≡ 0
 unfolding bit

@@ -10,11 +10,12 @@ use lib.Dec.{eqb}
 use borrow.Author.Tests.{eqb-true, eqb-false, eq-eqb, ne-eqb}
 use Rattle.words.specs.Choice.{pick, _and_, _or_}
 use Rattle.words.proofs.ChoiceLaws.{same-or-not, pick-true, pick-false}
-use Rattle.entries.specs.Entry.{PRIVATE, MERGEABLE, LEAF, frameOf, isAddress, isOwned}
+use Rattle.entries.specs.Entry.{SHARED, PRIVATE, MERGEABLE, LEAF, frameOf, isAddress, isOwned}
 use Rattle.entries.specs.Leaf.{leafWord}
 use Rattle.entries.specs.declared.entry.Entry.{Entry}
 use Rattle.entries.specs.declared.entry.Decoded.{Decoded}
 use Rattle.entries.specs.declared.entry.Decoded.the-variants.{Good, Bad}
+use Rattle.entries.specs.declared.leaf.LeafWord.{LeafWord}
 use Rattle.entries.specs.declared.leaf.LeafWord.the-variants.{Absent, Present, Misshapen}
 use Rattle.entries.proofs.LeafLaws.{address-whole, present-address}
 use Rattle.entries.proofs.Tells.{owned-kinds}
@@ -47,6 +48,13 @@ module _ (s : State) (page : Entry) (guest : ℕ) where
       let leaf = is-a-leaf (λ k. absurd (false≢true (cc))) in
       present-address _ gpa (sym (consulted-is leaf) ∙ h)
 
+-- a word that is absent or present is not broken
+pub from-absent : {w : LeafWord} → w ≡ Absent → w ≡ Misshapen → ⊥
+from-absent h k = absurd (false≢true (cc))
+
+pub from-present : {w : LeafWord} {gpa : ℕ} → w ≡ Present gpa → w ≡ Misshapen → ⊥
+from-present h k = absurd (false≢true (cc))
+
 -- ---- a LEAF is a good entry of its own type, and no frame of another type
 pub leaf-good : (d : Decoded) → isLeaf d ≡ true → (e : Entry) × ((d ≡ Good e) × (e .kind ≡ LEAF))
 unfolding isLeaf
@@ -65,6 +73,9 @@ not-a-leaf other h l same = let z : ⊥ = omega arith in absurd z
 
 pub owned-no-leaf : (kind : ℕ) → isOwned kind ≡ true → kind ≢ LEAF
 owned-no-leaf kind o = ⊎-elim (λ k. not-a-leaf PRIVATE k (omega arith)) (λ k. not-a-leaf MERGEABLE k (omega arith)) (owned-kinds kind o)
+
+pub shared-unowned : {kind : ℕ} → kind ≡ SHARED → isOwned kind ≡ true → ⊥
+shared-unowned k o = ⊎-elim (λ h. let z : ⊥ = omega arith in absurd z) (λ h. let z : ⊥ = omega arith in absurd z) (owned-kinds _ o)
 
 -- the leaf of a fixed page is in the table
 pub leaf-inside : (s : State) (f : ℕ) (page : Entry) → entryAt s f ≡ Good page → page .fixed ≡ true → leafFrame page < N s

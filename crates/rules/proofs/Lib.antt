@@ -1,4 +1,4 @@
--- The laws of the rules, which proofs cite instead of opening the definitions.
+-- The laws of the rules, which proofs cite instead of opening the definitions, and the proof of demand 3.
 pub mod AccessChanges
 pub mod ArgumentLaws
 pub mod AssignmentChanges
@@ -17,6 +17,7 @@ pub mod Leaves
 pub mod MergingChanges
 pub mod Never
 pub mod Passed
+pub mod PlaceChanges
 pub mod PlaceLaws
 pub mod Reason
 pub mod Sound
@@ -25,5 +26,4 @@ pub mod StateLaws
 pub mod StepChanges
 pub mod Steps
 pub mod Sums
-pub mod Ways
 pub mod Worked

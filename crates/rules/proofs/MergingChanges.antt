@@ -6,27 +6,26 @@ use mathlib.Core.Logic.{_≢_, ⊎-elim}
 use Prim.Native.Nat.{ℕ}
 use native.Mathlib.Omega.{arith}
 use Rattle.words.proofs.ChoiceLaws.{same-or-not}
-use Rattle.entries.specs.Entry.{SHARED, MERGEABLE, frameOf, isGuest, isOwned, entry, zeroEntry}
+use Rattle.entries.specs.Entry.{SHARED, MERGEABLE, frameOf, isGuest, entry, zeroEntry}
 use Rattle.entries.specs.declared.entry.Entry.{Entry}
-use Rattle.entries.proofs.Tells.{guest-range, owned-kinds, false-not-true}
+use Rattle.entries.proofs.Tells.{guest-range, false-not-true}
 use Rattle.rules.specs.Census.{holds, nothing, holding}
-use Rattle.rules.specs.History.{neither}
+use Rattle.rules.specs.History.{noEvent}
 use Rattle.rules.specs.Leaves.{leafFrame, isLeaf}
 use Rattle.rules.specs.Merging.{fixing, merging, unmerging, unfixing}
 use Rattle.rules.specs.State.{State, entryAt, wordAt}
 use Rattle.rules.proofs.Changes.{Change}
 use Rattle.rules.proofs.Consulted.{fixed-consulted, merged-consulted, unmerged-consulted, unfixed-consulted, fixed-owner}
-use Rattle.rules.proofs.Consulted.{fixed-others}
-use Rattle.rules.proofs.Consulted.{merged-here, merged-others, unmerged-here, unmerged-others}
+use Rattle.rules.proofs.Consulted.{fixed-others, merged-here, merged-others, unmerged-here, unmerged-others}
 use Rattle.rules.proofs.Effects.{Fixes, fixing-does, Merges, merging-does, Unmerges, unmerging-does, Unfixes, unfixing-does}
 use Rattle.rules.proofs.Holdings.{present-there, absent-there, holding-same, unopened, of-another, of-its-own, nobodys}
 use Rattle.rules.proofs.Holdings.{leaf-nothing}
-use Rattle.rules.proofs.Leaves.{consulted-is, unshared-word}
+use Rattle.rules.proofs.Leaves.{consulted-is, unshared-word, shared-unowned}
 use Rattle.rules.proofs.Passed.{Fixed, Merged, Unmerged, Unfixed}
+use Rattle.rules.proofs.PlaceLaws.{place-apart}
 use Rattle.rules.proofs.Sound.{Sound}
-use Rattle.rules.proofs.SoundSteps.{same-good}
-use Rattle.rules.proofs.StateLaws.{sizes, equal-words}
-use Rattle.rules.proofs.Ways.{place-apart, stays, moves}
+use Rattle.rules.proofs.StateLaws.{sizes, equal-words, same-good}
+use Rattle.rules.proofs.PlaceChanges.{stays, moves}
 
 -- ---- PFIX
 module _ (s : State) (sound : Sound s) (caller hpa leaf : ℕ) (before : Entry) (p : Fixed s caller hpa leaf before) (guest : ℕ) where
@@ -51,7 +50,7 @@ module _ (s : State) (sound : Sound s) (caller hpa leaf : ℕ) (before : Entry) 
       ∙ sym (of-another s guest _ before (p .here) (p .unfixed) other))
       (same-or-not (before .asid) guest)
 
-  pub fix-change : Change s fixedNow neither guest
+  pub fix-change : Change s fixedNow noEvent guest
   fix-change =
       stays s fixedNow guest (fix-effect .put .same-size .same-N)
       (λ f. ⊎-elim (λ here. rw here fixed-here)
@@ -86,7 +85,7 @@ module _ (s : State) (sound : Sound s) (caller hpa : ℕ) (before : Entry) (gpa 
       ∙ unshared-word s _ (before .asid) 512 guest (p .unshared) (omega arith) (λ same. other (sym same)))))
       (same-or-not (before .asid) guest)
 
-  pub unfix-change : Change s unfixedNow neither guest
+  pub unfix-change : Change s unfixedNow noEvent guest
   unfolding zeroEntry entry
   unfix-change =
       stays s unfixedNow guest (unfix-effect .same-size .same-N)
@@ -128,7 +127,7 @@ module _ (s : State) (sound : Sound s) (caller hpa1 hpa2 : ℕ) (one two : Entry
         merge-effect .words f i away (place-apart s guest gpa f _ h (leaf-nothing s guest _ (merge-effect .is-leaf)))
 
     -- another guest's places stay
-    merge-stays : two .asid ≢ guest → Change s mergedNow neither guest
+    merge-stays : two .asid ≢ guest → Change s mergedNow noEvent guest
     merge-stays other =
         stays s mergedNow guest (merge-effect .put .same-size .same-N)
         (λ f. ⊎-elim (λ here. rw here (merge-left ∙ sym was))
@@ -146,7 +145,7 @@ module _ (s : State) (sound : Sound s) (caller hpa1 hpa2 : ℕ) (one two : Entry
             (merged-others s caller hpa1 hpa2 one two p guest (λ same. other (sym same))))
 
   -- the place of frame 2's owner moves from frame 2 to frame 1, whose words are the same
-  merge-moves : Change s mergedNow neither (two .asid)
+  merge-moves : Change s mergedNow noEvent (two .asid)
   merge-moves =
       let least = sizes s (p .size) .memory-least in
       let in1 = p .inside1 in
@@ -169,13 +168,10 @@ module _ (s : State) (sound : Sound s) (caller hpa1 hpa2 : ℕ) (one two : Entry
           present-there mergedNow _ _ one (merge-effect .put .elsewhere _ merge-apart ∙ p .here1) (p .fixed1) _
           (merged-here s caller hpa1 hpa2 one two p)
 
-  pub merge-change : (guest : ℕ) → Change s mergedNow neither guest
+  pub merge-change : (guest : ℕ) → Change s mergedNow noEvent guest
   merge-change guest = ⊎-elim (λ own. rw (← own) merge-moves) (merge-stays guest) (same-or-not (two .asid) guest)
 
 -- ---- PUNMERGE
-pub shared-unowned : {kind : ℕ} → kind ≡ SHARED → isOwned kind ≡ true → ⊥
-shared-unowned k o = ⊎-elim (λ h. let z : ⊥ = omega arith in absurd z) (λ h. let z : ⊥ = omega arith in absurd z) (owned-kinds _ o)
-
 module _ (s : State) (sound : Sound s) (caller hpa1 hpa2 asid : ℕ) (one two : Entry) (gpa : ℕ)
     (p : Unmerged s caller hpa1 hpa2 asid one two gpa) where
   abbrev unmergedNow : State
@@ -205,7 +201,7 @@ module _ (s : State) (sound : Sound s) (caller hpa1 hpa2 asid : ℕ) (one two : 
     unmerge-words f at i away h =
         unmerge-effect .words f i away (place-apart s guest at f _ h (leaf-nothing s guest _ (unmerge-effect .is-leaf)))
 
-    unmerge-stays : asid ≢ guest → Change s unmergedNow neither guest
+    unmerge-stays : asid ≢ guest → Change s unmergedNow noEvent guest
     unfolding entry
     unmerge-stays other =
         stays s unmergedNow guest (unmerge-effect .put .same-size .same-N)
@@ -221,7 +217,7 @@ module _ (s : State) (sound : Sound s) (caller hpa1 hpa2 asid : ℕ) (one two : 
             (unmerged-others s caller hpa1 hpa2 asid one two gpa p guest (λ same. other (sym same))))
 
   -- the guest's place moves from frame 1 to its copy in frame 2
-  unmerge-moves : Change s unmergedNow neither asid
+  unmerge-moves : Change s unmergedNow noEvent asid
   unfolding entry
   unmerge-moves =
       moves s unmergedNow asid (unmerge-effect .put .same-size .same-N) (frameOf hpa1) (frameOf hpa2) gpa
@@ -234,5 +230,5 @@ module _ (s : State) (sound : Sound s) (caller hpa1 hpa2 asid : ℕ) (one two : 
       (unmerge-effect .copied)
       (λ f at i off away h. unmerge-words asid f at i away h)
 
-  pub unmerge-change : (guest : ℕ) → Change s unmergedNow neither guest
+  pub unmerge-change : (guest : ℕ) → Change s unmergedNow noEvent guest
   unmerge-change guest = ⊎-elim (λ own. rw (← own) unmerge-moves) (unmerge-stays guest) (same-or-not asid guest)

@@ -1,18 +1,23 @@
 -- The places of a guest at one address: they are a sum over frames, a place is inside the table and is counted, and where no more than
--- one is counted two places are one. A sum is at least any two of its terms.
+-- one is counted two places are one.
 -- Assumes nothing.
 use mathlib.Core.Path.{_≡_, refl}
-use mathlib.Core.Bool.{false≢true}
-use mathlib.Core.Logic.{⊎-elim}
+use mathlib.Core.Bool.{true, false, false≢true}
+use mathlib.Core.Logic.{_≢_, ⊎-elim}
 use Prim.Native.Nat.{ℕ, zero, suc, _≤_, _<_}
 use native.Mathlib.Omega.{arith}
-use borrow.Author.Tests.{eq-eqb}
-use Rattle.words.proofs.ChoiceLaws.{same-or-not, pick-true}
+use lib.Dec.{eqb}
+use borrow.Author.Tests.{eq-eqb, ne-eqb}
+use Rattle.words.specs.Choice.{pick, _and_}
+use Rattle.words.proofs.ChoiceLaws.{same-or-not, pick-true, pick-false}
+use Rattle.entries.specs.Entry.{bit}
+use Rattle.entries.specs.declared.entry.Entry.{Entry}
 use Rattle.entries.specs.declared.entry.Decoded.{Decoded}
 use Rattle.entries.specs.declared.entry.Decoded.the-variants.{Good, Bad}
 use Rattle.rules.specs.Balance.{sum}
-use Rattle.rules.specs.Census.{holds, inEntry, holding, placeIn, placesBelow, places}
+use Rattle.rules.specs.Census.{Holding, holds, nothing, fails, inEntry, holding, placeIn, placesBelow, places}
 use Rattle.rules.specs.State.{State, N, entryAt}
+use Rattle.rules.proofs.Holdings.{of-another, of-its-own}
 use Rattle.rules.proofs.StateLaws.{entry-inside}
 use Rattle.rules.proofs.Sums.{sum-term, sum-pair}
 
@@ -56,3 +61,31 @@ module _ (s : State) (guest gpa : ℕ) where
       two apart =
           let counted = sum-pair (placeAt s guest gpa) p q (N s) (holding-inside p h) (holding-inside q k) apart in
           omega (arith, place-is-one p h, place-is-one q k, places-are s guest gpa)
+
+-- ---- what a frame counts
+-- a frame that is nothing to the guest is none of its places, and counts for none; a frame is its place at one address
+pub place-apart : (s : State) (guest gpa f p : ℕ) → holding s guest f ≡ holds gpa → holding s guest p ≡ nothing → f ≢ p
+place-apart s guest gpa f p h k same = absurd (false≢true (cc))
+
+pub one-address : (s : State) (guest f g at here : ℕ) → holding s guest f ≡ holds at → holding s guest g ≡ holds here → f ≡ g → at ≡ here
+one-address s guest f g at here h k same = cc
+
+pub nothing-counts : (gpa : ℕ) {h : Holding} → h ≡ nothing → placeIn h gpa ≡ 0
+unfolding placeIn
+nothing-counts gpa e = rw e
+
+-- a page that is not fixed and is VALIDATED counts for its owner at its address
+pub page-counts :
+    (s : State) (guest f : ℕ) (e : Entry) → entryAt s f ≡ Good e → e .fixed ≡ false → e .validated ≡ true → (gpa : ℕ)
+    → placeIn (holding s guest f) gpa ≡ bit (eqb (e .asid) guest and eqb (e .address) gpa)
+unfolding placeIn _and_ bit pick
+page-counts s guest f e here unfixed v gpa =
+    ⊎-elim (λ own. rw (of-its-own s guest f e here unfixed v own, eq-eqb _ _ own))
+    (λ other. rw (of-another s guest f e here unfixed other, ne-eqb _ _ other))
+    (same-or-not (e .asid) guest)
+
+pub unplaced : (h : Holding) (gpa : ℕ) → h ≢ holds gpa → placeIn h gpa ≡ 0
+unfolding placeIn
+unplaced (holds here) gpa other = pick-false _ _ (ne-eqb here gpa (λ e. other (rw e)))
+unplaced nothing gpa other = refl
+unplaced (fails number) gpa other = refl

@@ -2,7 +2,7 @@
 -- and every word consulted afterwards was consulted before or is the one that the call wrote.
 -- Assumes nothing.
 use mathlib.Core.Path.{_≡_, refl, sym, _∙_}
-use mathlib.Core.Bool.{true, false, false≢true}
+use mathlib.Core.Bool.{true, false}
 use mathlib.Core.Logic.{_≢_, ⊎-elim}
 use Prim.Native.Nat.{ℕ, _<_}
 use Rattle.words.proofs.ChoiceLaws.{same-or-not}
@@ -23,21 +23,12 @@ use Rattle.rules.proofs.Consulted.{unfixed-consulted, written-consulted
 use Rattle.rules.proofs.Consulted.{unmerged-here, unmerged-others}
 use Rattle.rules.proofs.Effects.{Put, assigning-does, validating-does, Fixes, fixing-does, merging-does, unmerging-does, Unfixes}
 use Rattle.rules.proofs.Effects.{unfixing-does}
-use Rattle.rules.proofs.Effects.{from-absent, from-present}
-use Rattle.rules.proofs.Leaves.{unused-leaf}
-use Rattle.rules.proofs.Passed.{Updated, Validated, Fixed, Merged, Unmerged, Unfixed, Way}
-use Rattle.rules.proofs.Passed.{rmpupdate-cases, pvalidate-cases, pfix-cases, pmerge-cases, punmerge-cases, punfix-cases}
-use Rattle.rules.proofs.Passed.{write-cases}
+use Rattle.rules.proofs.Leaves.{unused-leaf, from-absent, from-present}
+use Rattle.rules.proofs.Passed.{Updated, Validated, Fixed, Merged, Unmerged, Unfixed, Way, rmpupdate-cases, pvalidate-cases}
+use Rattle.rules.proofs.Passed.{pfix-cases, pmerge-cases, punmerge-cases, punfix-cases, write-cases}
 use Rattle.rules.proofs.Sound.{Sound}
-use Rattle.rules.proofs.StateLaws.{entry-after-word, size-word}
+use Rattle.rules.proofs.StateLaws.{entry-after-word, size-word, same-good, not-bad}
 use Rattle.rules.proofs.Steps.{read-keeps, census-keeps}
-
--- two readings of one frame are one entry, and not both good and bad
-pub same-good : (s : State) (g f : ℕ) (d e : Entry) → entryAt s g ≡ Good d → entryAt s f ≡ Good e → g ≡ f → d ≡ e
-same-good s g f d e h k same = cc
-
-not-bad : (s : State) (g f : ℕ) (d : Entry) → entryAt s f ≡ Good d → g ≡ f → entryAt s g ≡ Bad → ⊥
-not-bad s g f d h same k = absurd (false≢true (cc))
 
 -- a fixed page is not at a frame whose entry is not fixed
 unfixed-apart :

@@ -3,7 +3,7 @@
 -- laws. Each is a law of the table or of a frame, carried over.
 -- Assumes nothing.
 use mathlib.Core.Path.{_≡_, refl, _∙_}
-use mathlib.Core.Bool.{true, false}
+use mathlib.Core.Bool.{true, false, false≢true}
 use mathlib.Core.List.{List}
 use mathlib.Core.Logic.{_≢_}
 use Prim.Native.Nat.{ℕ, _≤_, _<_}
@@ -14,7 +14,7 @@ use Rattle.words.proofs.FrameLaws.{word-outside, word-past, word-put-same, word
 use Rattle.words.proofs.FrameLaws.{word-zero-other, word-copy-same, word-copy-other, same-words}
 use Rattle.entries.specs.Entry.{frameOf, zeroEntry, wellFormed}
 use Rattle.entries.specs.declared.entry.Entry.{Entry}
-use Rattle.entries.specs.declared.entry.Decoded.the-variants.{Good}
+use Rattle.entries.specs.declared.entry.Decoded.the-variants.{Good, Bad}
 use Rattle.entries.proofs.TableLaws.{covered-put, whole-put, entry-put-same, entry-put-other, put-same, entry-good, entry-empty}
 use Rattle.entries.proofs.Tells.{Tells, tells}
 use Rattle.rules.specs.State.{State, emptyTable, N, M, sized, covers, entryAt, wordAt, differingAt, withEntry, withWord, withZeros}
@@ -129,6 +129,13 @@ module _ (s : State) (f : ℕ) where
   pub entry-after-copy : (to g : ℕ) → entryAt (withCopy s f to) g ≡ entryAt s g
   unfolding entryAt withCopy
   entry-after-copy to g = refl
+
+-- two readings of one frame are one entry, and not both good and bad
+pub same-good : (s : State) (g f : ℕ) (d e : Entry) → entryAt s g ≡ Good d → entryAt s f ≡ Good e → g ≡ f → d ≡ e
+same-good s g f d e h k same = cc
+
+pub not-bad : (s : State) (g f : ℕ) (d : Entry) → entryAt s f ≡ Good d → g ≡ f → entryAt s g ≡ Bad → ⊥
+not-bad s g f d h same k = absurd (false≢true (cc))
 
 -- "Empty table: all words zero": every frame is SHARED
 pub entry-of-empty :

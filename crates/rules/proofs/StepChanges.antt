@@ -4,29 +4,24 @@ use mathlib.Core.Path.{_≡_, refl, sym}
 use mathlib.Core.Bool.{Bool, true, false, false≢true}
 use Prim.Native.Nat.{ℕ}
 use Rattle.words.specs.Choice.{pick}
-use Rattle.words.proofs.ChoiceLaws.{pick-true, pick-false}
+use Rattle.words.proofs.ChoiceLaws.{pick-same}
 use Rattle.entries.specs.Entry.{isGuest}
 use Rattle.rules.specs.Answers.{Told, refused, done, none, closed, opened, already, word, count, Outcome}
 use Rattle.rules.specs.Calls.{Call, RMPUPDATE, PVALIDATE, PFIX, PMERGE, PUNMERGE, PUNFIX, READ, WRITE, CENSUS, step}
-use Rattle.rules.specs.History.{Event, opens, closes, reads, writes, neither, byAnswer, accepted, eventOf}
+use Rattle.rules.specs.History.{Event, opens, closes, reads, writes, noEvent, byAnswer, accepted, eventOf}
 use Rattle.rules.specs.State.{State}
 use Rattle.rules.proofs.AccessChanges.{ReadPlace, read-of-place, read-change, write-change}
 use Rattle.rules.proofs.AssignmentChanges.{update-change, validate-change}
 use Rattle.rules.proofs.Changes.{Change}
 use Rattle.rules.proofs.MergingChanges.{fix-change, merge-change, unmerge-change, unfix-change}
 use Rattle.rules.proofs.Passed.{rmpupdate-cases, pvalidate-cases, pfix-cases, pmerge-cases, punmerge-cases, punfix-cases}
-use Rattle.rules.proofs.Passed.{read-cases}
-use Rattle.rules.proofs.Passed.{write-cases}
+use Rattle.rules.proofs.Passed.{read-cases, write-cases}
 use Rattle.rules.proofs.Sound.{Sound}
 use Rattle.rules.proofs.Steps.{census-keeps}
-use Rattle.rules.proofs.Ways.{unchanged}
+use Rattle.rules.proofs.PlaceChanges.{unchanged}
 
 -- a refused call is no event
-pick-same : {A : Type 0} (t : Bool) (a : A) → pick t a a ≡ a
-pick-same true a = pick-true _ _ refl
-pick-same false a = pick-false _ _ refl
-
-refused-event : (c : Call) (n : ℕ) → eventOf c (refused n) ≡ neither
+refused-event : (c : Call) (n : ℕ) → eventOf c (refused n) ≡ noEvent
 unfolding eventOf byAnswer accepted
 refused-event (RMPUPDATE caller hpa gpa asid kind) n = refl
 refused-event (PVALIDATE caller gpa hpa kind) n = refl
@@ -80,7 +75,7 @@ isRead (opens guest gpa frame) = false
 isRead (closes guest gpa) = false
 isRead (reads guest gpa index) = true
 isRead (writes guest gpa index value) = false
-isRead neither = false
+isRead noEvent = false
 
 no-read : {A : Type 0} (e : Event) (guest gpa index : ℕ) → isRead e ≡ false → e ≡ reads guest gpa index → A
 unfolding isRead
@@ -99,7 +94,7 @@ answered-else already c o e hc ho he = he
 answered-else (word value) c o e hc ho he = he
 answered-else (count number) c o e hc ho he = he
 
-chosen-else : (t : Bool) (e : Event) → isRead e ≡ false → isRead (pick t e neither) ≡ false
+chosen-else : (t : Bool) (e : Event) → isRead e ≡ false → isRead (pick t e noEvent) ≡ false
 unfolding pick isRead
 chosen-else true e h = h
 chosen-else false e h = refl

@@ -17,20 +17,19 @@ use Rattle.rules.specs.Census.{census}
 use Rattle.rules.specs.State.{State, entryAt}
 use Rattle.rules.proofs.Effects.{assigning-does, validating-does, fixing-does, merging-does, unmerging-does, unfixing-does}
 use Rattle.rules.proofs.Passed.{rmpupdate-cases, pvalidate-cases, pfix-cases, pmerge-cases, punmerge-cases, punfix-cases}
-use Rattle.rules.proofs.Passed.{read-cases}
-use Rattle.rules.proofs.Passed.{write-cases, census-cases}
+use Rattle.rules.proofs.Passed.{read-cases, write-cases, census-cases}
 use Rattle.rules.proofs.Reason.{Reason}
 use Rattle.rules.proofs.StateLaws.{same-entry, SameSize, size-refl, size-word}
 
 -- ---- a refusal changes nothing, and has a reason
-abbrev Kept : State → Outcome → Type 0
-Kept s o = (n : ℕ) → o .told ≡ refused n → (o .after ≡ s) × Reason s n
+abbrev RefusedFor : State → Outcome → Type 0
+RefusedFor s o = (n : ℕ) → o .told ≡ refused n → (o .after ≡ s) × Reason s n
 
-refused-kept : (s : State) (n : ℕ) → Reason s n → Kept s (outcome (refused n) s)
+refused-kept : (s : State) (n : ℕ) → Reason s n → RefusedFor s (outcome (refused n) s)
 refused-kept s n why m h = let same : n ≡ m = cc in (refl, rw same at why)
 
 -- an answer that is no refusal has nothing to show
-accepted : (s : State) (a : Told) (u : State) → ((n : ℕ) → a ≡ refused n → ⊥) → Kept s (outcome a u)
+accepted : (s : State) (a : Told) (u : State) → ((n : ℕ) → a ≡ refused n → ⊥) → RefusedFor s (outcome a u)
 accepted s a u never n h = absurd (never n h)
 
 done-accepts : (n : ℕ) → done ≡ refused n → ⊥
@@ -52,22 +51,22 @@ validate-accepts old n = go (old .validated)
     go true h = absurd (false≢true (cc))
     go false h = absurd (false≢true (cc))
 
-refusal : (s : State) (c : Call) → Kept s (step s c)
+refusal : (s : State) (c : Call) → RefusedFor s (step s c)
 unfolding step
 refusal s (RMPUPDATE caller hpa gpa asid kind) =
-    rmpupdate-cases (Kept s) s (refused-kept s) caller hpa gpa asid kind (λ old p. accepted s _ _ (update-accepts old))
+    rmpupdate-cases (RefusedFor s) s (refused-kept s) caller hpa gpa asid kind (λ old p. accepted s _ _ (update-accepts old))
 refusal s (PVALIDATE caller gpa hpa kind) =
-    pvalidate-cases (Kept s) s (refused-kept s) caller gpa hpa kind (λ old p. accepted s _ _ (validate-accepts old))
-refusal s (PFIX caller hpa leaf) = pfix-cases (Kept s) s (refused-kept s) caller hpa leaf (λ old p. accepted s _ _ done-accepts)
-refusal s (PMERGE caller hpa1 hpa2) = pmerge-cases (Kept s) s (refused-kept s) caller hpa1 hpa2 (λ one two p. accepted s _ _ done-accepts)
+    pvalidate-cases (RefusedFor s) s (refused-kept s) caller gpa hpa kind (λ old p. accepted s _ _ (validate-accepts old))
+refusal s (PFIX caller hpa leaf) = pfix-cases (RefusedFor s) s (refused-kept s) caller hpa leaf (λ old p. accepted s _ _ done-accepts)
+refusal s (PMERGE caller hpa1 hpa2) = pmerge-cases (RefusedFor s) s (refused-kept s) caller hpa1 hpa2 (λ one two p. accepted s _ _ done-accepts)
 refusal s (PUNMERGE caller hpa1 hpa2 asid) =
-    punmerge-cases (Kept s) s (refused-kept s) caller hpa1 hpa2 asid (λ one two gpa p. accepted s _ _ done-accepts)
-refusal s (PUNFIX caller hpa) = punfix-cases (Kept s) s (refused-kept s) caller hpa (λ old gpa p. accepted s _ _ done-accepts)
+    punmerge-cases (RefusedFor s) s (refused-kept s) caller hpa1 hpa2 asid (λ one two gpa p. accepted s _ _ done-accepts)
+refusal s (PUNFIX caller hpa) = punfix-cases (RefusedFor s) s (refused-kept s) caller hpa (λ old gpa p. accepted s _ _ done-accepts)
 refusal s (READ caller gpa hpa gtype ntype index) =
-    read-cases (Kept s) s (refused-kept s) caller gpa hpa gtype ntype index (λ p. accepted s _ _ λ n h. absurd (false≢true (cc)))
+    read-cases (RefusedFor s) s (refused-kept s) caller gpa hpa gtype ntype index (λ p. accepted s _ _ λ n h. absurd (false≢true (cc)))
 refusal s (WRITE caller gpa hpa gtype ntype index value) =
-    write-cases (Kept s) s (refused-kept s) caller gpa hpa gtype ntype index value (λ p. accepted s _ _ done-accepts)
-refusal s (CENSUS asid) = census-cases (Kept s) s (refused-kept s) asid (λ m p. accepted s _ _ λ n h. absurd (false≢true (cc)))
+    write-cases (RefusedFor s) s (refused-kept s) caller gpa hpa gtype ntype index value (λ p. accepted s _ _ done-accepts)
+refusal s (CENSUS asid) = census-cases (RefusedFor s) s (refused-kept s) asid (λ m p. accepted s _ _ λ n h. absurd (false≢true (cc)))
 
 pub refused-keeps : (s : State) (c : Call) (n : ℕ) → step s c .told ≡ refused n → step s c .after ≡ s
 refused-keeps s c n h = refusal s c n h .0

@@ -97,3 +97,8 @@ pub sum-swap : (t : ℕ → ℕ → ℕ) (m n : ℕ) → sum (λ a. sum (t a) n)
 unfolding sum
 sum-swap t m zero = sum-none (λ a. 0) m (λ a h. refl)
 sum-swap t m (suc n) = let below = sum-swap t m n in omega (arith, sum-add (λ a. sum (t a) n) (λ a. t a n) _ m (λ a. refl))
+
+pub sum-most : (t : ℕ → ℕ) (n : ℕ) → ((i : ℕ) → t i ≤ 1) → sum t n ≤ n
+unfolding sum
+sum-most t zero h = omega arith
+sum-most t (suc n) h = omega (arith, sum-most t n h, h n)

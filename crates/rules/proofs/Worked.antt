@@ -5,9 +5,7 @@ use mathlib.Core.List.{map}
 use Rattle.rules.specs.Calls.{step}
 use Rattle.rules.specs.Census.{placeIn, placesBelow, places}
 use Rattle.rules.specs.Examples.{Example, blank, page, pageOfTwo, owned, unopened, lone, apart, fixedPage, unfixedPage, mergedPage}
-use Rattle.rules.specs.Examples.{leafTaken}
-use Rattle.rules.specs.Examples.{examples}
-use Rattle.rules.specs.Examples.{Placed, placeExamples}
+use Rattle.rules.specs.Examples.{leafTaken, examples, Placed, placeExamples}
 use Rattle.rules.proofs.Computed.{computed}
 
 pub as-worked : map (λ (x : Example). step (x .before) (x .call)) examples ≡ map (λ (x : Example). x .gives) examples

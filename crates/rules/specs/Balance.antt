@@ -1,22 +1,22 @@
 -- 01, CENSUS, and "demand 3 ties places to openings and closings": the census of a guest after a list of calls, as its places at
 -- all addresses together.
 use mathlib.Core.Path.{_≡_}
-use mathlib.Core.Bool.{false}
+use mathlib.Core.Bool.{true, false}
 use mathlib.Core.List.{List}
 use Prim.Native.Nat.{ℕ, zero, suc, _+_, _≤_}
-use Rattle.entries.specs.Entry.{addressLimit, isAddress}
+use Rattle.entries.specs.Entry.{addressLimit, isAddress, isGuest}
 use Rattle.rules.specs.Answers.{count, outcome}
 use Rattle.rules.specs.Calls.{Call, CENSUS, step}
 use Rattle.rules.specs.Census.{places}
 use Rattle.rules.specs.History.{history, finally, openings, closings}
-use Rattle.rules.specs.State.{State, N}
+use Rattle.rules.specs.State.{State, emptyTable, N, sized}
 
 -- the first n terms together
 unfoldable pub sum : (ℕ → ℕ) → ℕ → ℕ
 sum t zero = 0
 sum t (suc n) = sum t n + t n
 
--- a sum over all addresses: they are below 2^52, and a number that is no address has no place, opening or closing (`nowhere-else`)
+-- a sum over all addresses
 unfoldable pub overAddresses : (ℕ → ℕ) → ℕ
 overAddresses t = sum t addressLimit
 
@@ -30,7 +30,13 @@ pub record CensusKept (s : State) (calls : List Call) (guest : ℕ) : Type 0 whe
   pub balanced :
       overAddresses (places (finally s calls) guest) + overAddresses (closings (history s calls) guest)
       ≡ overAddresses (openings (history s calls) guest)
-  -- what is no address adds nothing to these sums, and nothing is left out of them
+  -- a number that is no address adds nothing to these sums; every address is below 2^52, so none is left out of them
   pub nowhere-else :
       (gpa : ℕ) → isAddress gpa ≡ false
       → (places (finally s calls) guest gpa ≡ 0) × (closings (history s calls) guest gpa ≡ 0) × (openings (history s calls) guest gpa ≡ 0)
+
+-- after any list of calls from an empty table and any memory, of the right sizes
+abbrev pub CensusClaim : Type 0
+CensusClaim =
+    (length : ℕ) (memory : List ℕ) (calls : List Call) (guest : ℕ) → sized (emptyTable length memory) ≡ true → isGuest guest ≡ true
+    → CensusKept (emptyTable length memory) calls guest

@@ -20,11 +20,12 @@ pub record Made : Type 0 where
 abbrev pub made : State → Call → Made
 made s call = record { call = call; got = s; told = step s call .told }
 
--- "Each call gets both as the call before left them": a list of calls as they were made, and table and memory after them
+-- "Each call gets both as the call before left them": a list of calls, as they were made
 unfoldable pub history : State → List Call → List Made
 history s [] = []
 history s (call ∷ rest) = made s call ∷ history (step s call .after) rest
 
+-- table and memory after a list of calls
 unfoldable pub finally : State → List Call → State
 finally s [] = s
 finally s (call ∷ rest) = finally (step s call .after) rest
@@ -35,11 +36,12 @@ pub data Event : Type 0 where
   closes : (guest gpa : ℕ) → Event
   reads : (guest gpa index : ℕ) → Event
   writes : (guest gpa index value : ℕ) → Event
-  neither : Event
+  -- any other call, and any refused one
+  noEvent : Event
 
 -- the event of an answer: none for a refusal, one for *closed*, one for *opened*, one for every other answer
 unfoldable pub byAnswer : Told → (ℕ → ℕ → Event) → Event → Event → Event
-byAnswer (refused number) ifClosed ifOpened ifElse = neither
+byAnswer (refused number) ifClosed ifOpened ifElse = noEvent
 byAnswer done ifClosed ifOpened ifElse = ifElse
 byAnswer none ifClosed ifOpened ifElse = ifElse
 byAnswer (closed guest gpa) ifClosed ifOpened ifElse = ifClosed guest gpa
@@ -54,18 +56,18 @@ accepted told e = byAnswer told (λ guest gpa. e) e e
 
 -- "*Opening*: a PVALIDATE answered *opened*, for its caller and gpa. *Closing*: an RMPUPDATE answered *closed*, for the guest and address
 -- that the answer names." "A read or write belongs to its caller and its gpa, whichever frame it names, and is private or mergeable if its
--- gtype is 1 or 2."
+-- gtype is 1 or 2." It is accepted unless it was refused.
 unfoldable pub eventOf : Call → Told → Event
-eventOf (RMPUPDATE caller hpa gpa asid kind) told = byAnswer told closes neither neither
-eventOf (PVALIDATE caller gpa hpa kind) told = byAnswer told (λ guest address. neither) (opens caller gpa (frameOf hpa)) neither
-eventOf (PFIX caller hpa leaf) told = neither
-eventOf (PMERGE caller hpa1 hpa2) told = neither
-eventOf (PUNMERGE caller hpa1 hpa2 asid) told = neither
-eventOf (PUNFIX caller hpa) told = neither
-eventOf (READ caller gpa hpa gtype ntype index) told = pick (isOwned gtype) (accepted told (reads caller gpa index)) neither
+eventOf (RMPUPDATE caller hpa gpa asid kind) told = byAnswer told closes noEvent noEvent
+eventOf (PVALIDATE caller gpa hpa kind) told = byAnswer told (λ guest address. noEvent) (opens caller gpa (frameOf hpa)) noEvent
+eventOf (PFIX caller hpa leaf) told = noEvent
+eventOf (PMERGE caller hpa1 hpa2) told = noEvent
+eventOf (PUNMERGE caller hpa1 hpa2 asid) told = noEvent
+eventOf (PUNFIX caller hpa) told = noEvent
+eventOf (READ caller gpa hpa gtype ntype index) told = pick (isOwned gtype) (accepted told (reads caller gpa index)) noEvent
 eventOf (WRITE caller gpa hpa gtype ntype index value) told =
-    pick (isOwned gtype) (accepted told (writes caller gpa index value)) neither
-eventOf (CENSUS asid) told = neither
+    pick (isOwned gtype) (accepted told (writes caller gpa index value)) noEvent
+eventOf (CENSUS asid) told = noEvent
 
 unfoldable pub event : Made → Event
 event m = eventOf (m .call) (m .told)
@@ -76,14 +78,14 @@ isOpening (opens who at frame) guest gpa = eqb who guest and eqb at gpa
 isOpening (closes who at) guest gpa = false
 isOpening (reads who at index) guest gpa = false
 isOpening (writes who at index value) guest gpa = false
-isOpening neither guest gpa = false
+isOpening noEvent guest gpa = false
 
 unfoldable pub isClosing : Event → ℕ → ℕ → Bool
 isClosing (opens who at frame) guest gpa = false
 isClosing (closes who at) guest gpa = eqb who guest and eqb at gpa
 isClosing (reads who at index) guest gpa = false
 isClosing (writes who at index value) guest gpa = false
-isClosing neither guest gpa = false
+isClosing noEvent guest gpa = false
 
 unfoldable pub openings : List Made → ℕ → ℕ → ℕ
 openings [] guest gpa = 0
@@ -98,9 +100,9 @@ closings (m ∷ rest) guest gpa = bit (isClosing (event m) guest gpa) + closings
 unfoldable pub written : Event → ℕ → ℕ → ℕ → ℕ → ℕ
 written (opens who at frame) guest gpa index before = before
 written (closes who at) guest gpa index before = before
-written (reads who at place) guest gpa index before = before
-written (writes who at place value) guest gpa index before = pick (eqb who guest and eqb at gpa and eqb place index) value before
-written neither guest gpa index before = before
+written (reads who at which) guest gpa index before = before
+written (writes who at which value) guest gpa index before = pick (eqb who guest and eqb at gpa and eqb which index) value before
+written noEvent guest gpa index before = before
 
 unfoldable pub lastWrite : List Made → ℕ → ℕ → ℕ → ℕ → ℕ
 lastWrite [] guest gpa index before = before

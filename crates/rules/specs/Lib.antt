@@ -1,4 +1,4 @@
--- The rules of paper 01: what each call answers and leaves, over table and memory.
+-- The rules of paper 01: what each call answers and leaves, over table and memory; and what is claimed of lists of calls.
 pub mod Access
 pub mod Answers
 pub mod Arguments

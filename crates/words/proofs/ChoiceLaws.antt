@@ -27,6 +27,10 @@ pub pick-false : {A : Type 0} {t : Bool} (a b : A) → t ≡ false → pick t a 
 unfolding pick
 pick-false a b e = rw e
 
+pub pick-same : {A : Type 0} (t : Bool) (a : A) → pick t a a ≡ a
+pick-same true a = pick-true _ _ refl
+pick-same false a = pick-false _ _ refl
+
 module _ (s t : Bool) where
   pub and-left : s and t ≡ true → s ≡ true
   unfolding _and_

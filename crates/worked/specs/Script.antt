@@ -4,7 +4,7 @@ use mathlib.Core.List.{List, [], _∷_}
 use lib.ListN.{replicate}
 use Rattle.rules.specs.Answers.{Told, refused, done, none, closed, opened, word, count}
 use Rattle.rules.specs.Calls.{Call, RMPUPDATE, PVALIDATE, PFIX, PMERGE, PUNMERGE, PUNFIX, READ, WRITE, CENSUS}
-use Rattle.rules.specs.History.{Event, opens, closes, reads, writes, neither}
+use Rattle.rules.specs.History.{Event, opens, closes, reads, writes, noEvent}
 use Rattle.rules.specs.State.{State, emptyTable}
 
 -- "an empty table with N = 8, M = 10 and zeroed memory"
@@ -62,24 +62,24 @@ output =
 -- openings, closings, and accepted private or mergeable reads and writes: guests, addresses, frame or word index, and value
 unfoldable pub events : List Event
 events =
-    neither
+    noEvent
     ∷ opens 0x7 0x50000 0x1
     ∷ writes 0x7 0x50000 0x3 0x2a
-    ∷ neither
+    ∷ noEvent
     ∷ opens 0x9 0x60000 0x2
     ∷ writes 0x9 0x60000 0x3 0x2a
-    ∷ neither
-    ∷ neither
-    ∷ neither
+    ∷ noEvent
+    ∷ noEvent
+    ∷ noEvent
     ∷ reads 0x9 0x60000 0x3
-    ∷ neither
-    ∷ neither
-    ∷ neither
-    ∷ neither
-    ∷ neither
+    ∷ noEvent
+    ∷ noEvent
+    ∷ noEvent
+    ∷ noEvent
+    ∷ noEvent
     ∷ writes 0x7 0x50000 0x3 0x2b
     ∷ reads 0x9 0x60000 0x3
-    ∷ neither
+    ∷ noEvent
     ∷ closes 0x7 0x50000
-    ∷ neither
+    ∷ noEvent
     ∷ []

@@ -2,45 +2,16 @@
 -- the guest. Each is a change of one or two terms of a sum over frames; whence each place comes is told frame by frame.
 -- Assumes nothing.
 use mathlib.Core.Path.{_≡_, refl, sym, _∙_}
-use mathlib.Core.Bool.{true, false, false≢true}
 use mathlib.Core.Logic.{_≢_, ⊎-elim}
 use Prim.Native.Nat.{ℕ, _+_, _<_}
 use native.Mathlib.Omega.{arith}
-use lib.Dec.{eqb}
-use borrow.Author.Tests.{eq-eqb, ne-eqb}
-use Rattle.words.specs.Choice.{pick, _and_}
 use Rattle.words.proofs.ChoiceLaws.{same-or-not}
-use Rattle.entries.specs.Entry.{bit}
-use Rattle.entries.specs.declared.entry.Entry.{Entry}
-use Rattle.entries.specs.declared.entry.Decoded.the-variants.{Good}
 use Rattle.rules.specs.Census.{Holding, holds, nothing, holding, placeIn, places}
-use Rattle.rules.specs.History.{reads, neither, isOpening, isClosing, written}
-use Rattle.rules.specs.State.{State, N, entryAt, wordAt}
+use Rattle.rules.specs.History.{reads, noEvent, isOpening, isClosing, written}
+use Rattle.rules.specs.State.{State, N, wordAt}
 use Rattle.rules.proofs.Changes.{Whence, old, Change}
-use Rattle.rules.proofs.Holdings.{of-another, of-its-own}
-use Rattle.rules.proofs.PlaceLaws.{places-are, holding-inside}
+use Rattle.rules.proofs.PlaceLaws.{places-are, holding-inside, place-apart}
 use Rattle.rules.proofs.Sums.{sum-same, sum-one, sum-two}
-
--- a frame that is nothing to the guest is none of its places, and counts for none; a frame is its place at one address
-pub place-apart : (s : State) (guest gpa f p : ℕ) → holding s guest f ≡ holds gpa → holding s guest p ≡ nothing → f ≢ p
-place-apart s guest gpa f p h k same = absurd (false≢true (cc))
-
-pub one-address : (s : State) (guest f g at here : ℕ) → holding s guest f ≡ holds at → holding s guest g ≡ holds here → f ≡ g → at ≡ here
-one-address s guest f g at here h k same = cc
-
-pub nothing-counts : (gpa : ℕ) {h : Holding} → h ≡ nothing → placeIn h gpa ≡ 0
-unfolding placeIn
-nothing-counts gpa e = rw e
-
--- a page that is not fixed and is VALIDATED counts for its owner at its address
-pub page-counts :
-    (s : State) (guest f : ℕ) (e : Entry) → entryAt s f ≡ Good e → e .fixed ≡ false → e .validated ≡ true → (gpa : ℕ)
-    → placeIn (holding s guest f) gpa ≡ bit (eqb (e .asid) guest and eqb (e .address) gpa)
-unfolding placeIn _and_ bit pick
-page-counts s guest f e here unfixed v gpa =
-    ⊎-elim (λ own. rw (of-its-own s guest f e here unfixed v own, eq-eqb _ _ own))
-    (λ other. rw (of-another s guest f e here unfixed other, ne-eqb _ _ other))
-    (same-or-not (e .asid) guest)
 
 module _ (s u : State) (guest : ℕ) (size : N u ≡ N s) where
   pub places-same : ((f : ℕ) → holding u guest f ≡ holding s guest f) → (gpa : ℕ) → places u guest gpa ≡ places s guest gpa
@@ -57,7 +28,7 @@ module _ (s u : State) (guest : ℕ) (size : N u ≡ N s) where
   pub stays :
       ((f : ℕ) → holding u guest f ≡ holding s guest f)
       → ((f gpa i : ℕ) → holding s guest f ≡ holds gpa → wordAt u f i ≡ wordAt s f i)
-      → Change s u neither guest
+      → Change s u noEvent guest
   unfolding isOpening isClosing written
   stays same words =
       record {
@@ -84,11 +55,11 @@ module _ (s u : State) (guest : ℕ) (size : N u ≡ N s) where
     pub moves :
         ((i : ℕ) → wordAt u q i ≡ wordAt s p i)
         → ((f gpa i : ℕ) → f ≢ p → f ≢ q → holding s guest f ≡ holds gpa → wordAt u f i ≡ wordAt s f i)
-        → Change s u neither guest
+        → Change s u noEvent guest
     unfolding isOpening isClosing written
     moves words others = record { balance = λ gpa. rw (places-moved gpa); whence = λ gpa f most h. whence gpa f h }
       where
-        whence : (gpa f : ℕ) → holding u guest f ≡ holds gpa → Whence s u neither guest gpa f
+        whence : (gpa f : ℕ) → holding u guest f ≡ holds gpa → Whence s u noEvent guest gpa f
         whence gpa f h =
             ⊎-elim
             (λ here. old p (cc) (λ i. rw here (words i)))
@@ -99,7 +70,7 @@ module _ (s u : State) (guest : ℕ) (size : N u ≡ N s) where
             (same-or-not f q)
 
 -- nothing is done
-pub unchanged : (s : State) (guest : ℕ) → Change s s neither guest
+pub unchanged : (s : State) (guest : ℕ) → Change s s noEvent guest
 unchanged s guest = stays s s guest refl (λ f. refl) (λ f gpa i h. refl)
 
 pub only-read : (s : State) (guest caller gpa index : ℕ) → Change s s (reads caller gpa index) guest
