@@ -1,5 +1,5 @@
 -- The word consulted for a fixed page after each accepted call, in a sound state: it stays, because leaves are LEAF frames that no two
--- pages share and that no call but PFIX, PMERGE, PUNMERGE and PUNFIX writes to, except for the one word that those calls are about.
+-- pages share, and no call but PFIX, PMERGE, PUNMERGE and PUNFIX writes to one; and what it is in the leaf that such a call writes to.
 -- Assumes nothing.
 use mathlib.Core.Path.{_≡_, sym, _∙_}
 use mathlib.Core.Bool.{true, false≢true}

@@ -1,5 +1,5 @@
--- What follows, for every list of calls from an empty table and any memory: the census is the number of places, which closings and
--- openings balance; no call meets 5 or 12; and what an accepted read returns, in one piece. By the theorem, and by soundness.
+-- What follows. No list of calls changes a size. From an empty table and any memory: no call meets 5 or 12; the census is the number of
+-- places, which closings and openings balance; and what an accepted read returns, in one piece. By the theorem, and by soundness.
 -- Assumes nothing.
 use mathlib.Core.Path.{_≡_, refl, ap, _∙_}
 use mathlib.Core.Bool.{true, false}

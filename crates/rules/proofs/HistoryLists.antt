@@ -12,7 +12,8 @@ use Rattle.words.specs.Choice.{pick, _and_}
 use Rattle.words.proofs.ChoiceLaws.{true-or-false, pick-false, and-left, and-right}
 use Rattle.entries.specs.Entry.{bit}
 use Rattle.rules.specs.Calls.{Call, step}
-use Rattle.rules.specs.History.{Made, made, history, finally, Event, opens, closes, reads, writes, noEvent, event, isOpening, openings}
+use Rattle.rules.specs.History.{Made, made, history, finally, Event, opens, closes, reads, writes, noEvent, event}
+use Rattle.rules.specs.History.{isOpening, openings}
 use Rattle.rules.specs.State.{State}
 
 -- ---- counts

@@ -1,5 +1,5 @@
--- The places of a guest at one address: they are a sum over frames, a place is inside the table and is counted, and where no more than
--- one is counted two places are one.
+-- The places of a guest at one address: they are a sum over frames, a place is inside the table and is counted, where no more than one is
+-- counted two places are one, and what a frame counts by its entry.
 -- Assumes nothing.
 use mathlib.Core.Path.{_≡_, refl}
 use mathlib.Core.Bool.{true, false, false≢true}

@@ -1,4 +1,5 @@
--- What any call does to the places of a guest, from a sound state: by the call's own case, and a refused call does nothing.
+-- What any call does to the places of a guest, from a sound state: by the call's own case, and a refused call does nothing. And that an
+-- accepted private or mergeable read is a READ, which answers a word of a place.
 -- Assumes nothing.
 use mathlib.Core.Path.{_≡_, refl, sym}
 use mathlib.Core.Bool.{Bool, true, false, false≢true}

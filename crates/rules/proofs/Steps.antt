@@ -58,7 +58,8 @@ refusal s (RMPUPDATE caller hpa gpa asid kind) =
 refusal s (PVALIDATE caller gpa hpa kind) =
     pvalidate-cases (RefusedFor s) s (refused-kept s) caller gpa hpa kind (λ old p. accepted s _ _ (validate-accepts old))
 refusal s (PFIX caller hpa leaf) = pfix-cases (RefusedFor s) s (refused-kept s) caller hpa leaf (λ old p. accepted s _ _ done-accepts)
-refusal s (PMERGE caller hpa1 hpa2) = pmerge-cases (RefusedFor s) s (refused-kept s) caller hpa1 hpa2 (λ one two p. accepted s _ _ done-accepts)
+refusal s (PMERGE caller hpa1 hpa2) =
+    pmerge-cases (RefusedFor s) s (refused-kept s) caller hpa1 hpa2 (λ one two p. accepted s _ _ done-accepts)
 refusal s (PUNMERGE caller hpa1 hpa2 asid) =
     punmerge-cases (RefusedFor s) s (refused-kept s) caller hpa1 hpa2 asid (λ one two gpa p. accepted s _ _ done-accepts)
 refusal s (PUNFIX caller hpa) = punfix-cases (RefusedFor s) s (refused-kept s) caller hpa (λ old gpa p. accepted s _ _ done-accepts)
@@ -103,23 +104,28 @@ already-keeps s caller gpa hpa kind =
     (λ old p h. validated-again s _ old (p .here) (answered-already old h))
 
 -- ---- no call changes a size
+abbrev SizeKept : State → Outcome → Type 0
+SizeKept s o = SameSize s (o .after)
+
 pub step-size : (s : State) (c : Call) → SameSize s (step s c .after)
 unfolding step
 step-size s (RMPUPDATE caller hpa gpa asid kind) =
-    rmpupdate-cases (λ o. SameSize s (o .after)) s (λ n why. size-refl s) caller hpa gpa asid kind
+    rmpupdate-cases (SizeKept s) s (λ n why. size-refl s) caller hpa gpa asid kind
     (λ old p. assigning-does s caller hpa gpa asid kind old p .put .same-size)
 step-size s (PVALIDATE caller gpa hpa kind) =
-    pvalidate-cases (λ o. SameSize s (o .after)) s (λ n why. size-refl s) caller gpa hpa kind (λ old p. validating-does s caller gpa hpa kind old p .put .same-size)
+    pvalidate-cases (SizeKept s) s (λ n why. size-refl s) caller gpa hpa kind
+    (λ old p. validating-does s caller gpa hpa kind old p .put .same-size)
 step-size s (PFIX caller hpa leaf) =
-    pfix-cases (λ o. SameSize s (o .after)) s (λ n why. size-refl s) caller hpa leaf (λ old p. fixing-does s caller hpa leaf old p .put .same-size)
+    pfix-cases (SizeKept s) s (λ n why. size-refl s) caller hpa leaf (λ old p. fixing-does s caller hpa leaf old p .put .same-size)
 step-size s (PMERGE caller hpa1 hpa2) =
-    pmerge-cases (λ o. SameSize s (o .after)) s (λ n why. size-refl s) caller hpa1 hpa2 (λ one two p. merging-does s caller hpa1 hpa2 one two p .put .same-size)
+    pmerge-cases (SizeKept s) s (λ n why. size-refl s) caller hpa1 hpa2
+    (λ one two p. merging-does s caller hpa1 hpa2 one two p .put .same-size)
 step-size s (PUNMERGE caller hpa1 hpa2 asid) =
-    punmerge-cases (λ o. SameSize s (o .after)) s (λ n why. size-refl s) caller hpa1 hpa2 asid
+    punmerge-cases (SizeKept s) s (λ n why. size-refl s) caller hpa1 hpa2 asid
     (λ one two gpa p. unmerging-does s caller hpa1 hpa2 asid one two gpa p .put .same-size)
 step-size s (PUNFIX caller hpa) =
-    punfix-cases (λ o. SameSize s (o .after)) s (λ n why. size-refl s) caller hpa (λ old gpa p. unfixing-does s caller hpa old gpa p .same-size)
+    punfix-cases (SizeKept s) s (λ n why. size-refl s) caller hpa (λ old gpa p. unfixing-does s caller hpa old gpa p .same-size)
 step-size s (READ caller gpa hpa gtype ntype index) = rw (read-keeps s caller gpa hpa gtype ntype index) (size-refl s)
 step-size s (WRITE caller gpa hpa gtype ntype index value) =
-    write-cases (λ o. SameSize s (o .after)) s (λ n why. size-refl s) caller gpa hpa gtype ntype index value (λ p. size-word s _ _ _)
+    write-cases (SizeKept s) s (λ n why. size-refl s) caller gpa hpa gtype ntype index value (λ p. size-word s _ _ _)
 step-size s (CENSUS asid) = rw (census-keeps s asid) (size-refl s)

@@ -1,5 +1,5 @@
 -- Sums of the first n terms, by induction on n: of two that differ in no term, in one, or in two; that a term, or two, are no more than
--- the whole, and one alone is the whole; two added term by term; and a sum of sums, taken the other way round.
+-- the whole, and one alone is the whole; two added term by term; a sum of sums, taken the other way round; and a bound.
 -- Assumes nothing.
 use mathlib.Core.Path.{_≡_, refl}
 use mathlib.Core.Logic.{_≢_}

@@ -76,6 +76,7 @@ examples =
     ∷ refuses fixedPage (RMPUPDATE 0 0x2000 0 0 0) 6
     ∷ accepts unopened (PVALIDATE 7 0x50000 0 2) opened owned
     ∷ accepts owned (PVALIDATE 7 0x50000 0 2) already owned
+    ∷ refuses unopened (PVALIDATE 7 0x50000 0 1) 6
     ∷ refuses unopened (PVALIDATE 9 0x60000 0 2) 7
     ∷ accepts apart (PFIX 0 0 0x2000) done fixedPage
     ∷ refuses leafTaken (PFIX 0 0 0x2000) 15
