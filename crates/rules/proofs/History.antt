@@ -4,18 +4,18 @@
 use mathlib.Core.Path.{_≡_, refl, _∙_}
 use mathlib.Core.Bool.{false, false≢true}
 use mathlib.Core.List.{List}
-use Prim.Native.Nat.{ℕ, _<_}
+use Prim.Native.Nat.{ℕ}
 use native.Mathlib.Omega.{arith}
-use Rattle.words.specs.Choice.{pick, _and_}
 use Rattle.entries.specs.Entry.{entry, zeroEntry}
 use Rattle.entries.specs.declared.entry.Entry.{Entry}
 use Rattle.entries.specs.declared.entry.Decoded.the-variants.{Good}
 use Rattle.entries.proofs.Tells.{false-not-true}
-use Rattle.rules.specs.Census.{nothing, inEntry, holding, placeIn, places}
+use Rattle.rules.specs.Census.{places}
 use Rattle.rules.specs.History.{Demand3}
-use Rattle.rules.specs.State.{emptyTable, N, entryAt}
+use Rattle.rules.specs.State.{emptyTable, entryAt}
 use Rattle.rules.proofs.HistoryFrom.{runs-on}
-use Rattle.rules.proofs.PlaceLaws.{places-are}
+use Rattle.rules.proofs.Holdings.{unopened}
+use Rattle.rules.proofs.PlaceLaws.{places-are, nothing-counts}
 use Rattle.rules.proofs.Sound.{Sound}
 use Rattle.rules.proofs.StateLaws.{entry-inside, entry-of-empty}
 use Rattle.rules.proofs.Sums.{sum-none}
@@ -37,13 +37,11 @@ module _ (length : ℕ) (memory : List ℕ) where
         unbroken = λ f e guest here fixed broken. false-not-true (none-fixed f e here) fixed;
       }
 
-  holds-nothing : (guest f : ℕ) → f < N (emptyTable length memory) → holding (emptyTable length memory) guest f ≡ nothing
-  unfolding holding inEntry zeroEntry entry pick _and_
-  holds-nothing guest f h = rw (entry-of-empty length memory f h) refl
-
   pub no-place-yet : (guest gpa : ℕ) → places (emptyTable length memory) guest gpa ≡ 0
-  unfolding placeIn
-  no-place-yet guest gpa = places-are (emptyTable length memory) guest gpa ∙ sum-none _ _ (λ f h. rw (holds-nothing guest f h) refl)
+  unfolding zeroEntry entry
+  no-place-yet guest gpa =
+      places-are (emptyTable length memory) guest gpa
+      ∙ sum-none _ _ (λ f h. nothing-counts gpa (unopened _ guest f zeroEntry (entry-of-empty length memory f h) refl refl))
 
 pub no-counter-goes-back : Demand3
 no-counter-goes-back length memory calls =
