@@ -23,10 +23,10 @@ use Rattle.rules.proofs.Consulted.{written-consulted}
 use Rattle.rules.proofs.Holdings.{present-there, holding-same, of-another, of-its-own, nobodys}
 use Rattle.rules.proofs.Leaves.{shared-unowned}
 use Rattle.rules.proofs.Passed.{Way, above, shared, own, merged, Accessed}
+use Rattle.rules.proofs.PlaceChanges.{places-same, stays, unchanged, only-read}
 use Rattle.rules.proofs.PlaceLaws.{holding-inside, one-place, place-apart, one-address}
 use Rattle.rules.proofs.Sound.{Sound}
 use Rattle.rules.proofs.StateLaws.{size-word, entry-tells, entry-after-word, word-after-word, word-elsewhere, word-beside}
-use Rattle.rules.proofs.PlaceChanges.{places-same, stays, unchanged, only-read}
 
 -- ---- READ
 pub read-change :
@@ -65,19 +65,19 @@ pub record ReadPlace (s : State) (guest gpa index : ℕ) (told : Told) : Type 0 
 -- an accepted private or mergeable read is a guest's, and answers a word of a place of it
 pub read-of-place :
     (s : State) (caller gpa hpa gtype ntype index : ℕ) → Accessed s false caller gpa hpa gtype ntype index
-    → (guest at place : ℕ)
-    → eventOf (READ caller gpa hpa gtype ntype index) (word (wordAt s (frameOf hpa) index)) ≡ reads guest at place
-    → ReadPlace s guest at place (word (wordAt s (frameOf hpa) index))
+    → (guest at i : ℕ)
+    → eventOf (READ caller gpa hpa gtype ntype index) (word (wordAt s (frameOf hpa) index)) ≡ reads guest at i
+    → ReadPlace s guest at i (word (wordAt s (frameOf hpa) index))
 unfolding eventOf byAnswer accepted
-read-of-place s caller gpa hpa gtype ntype index p guest at place =
+read-of-place s caller gpa hpa gtype ntype index p guest at i =
     ⊎-elim owned (λ o h. let k = sym (pick-false _ _ o) ∙ h in absurd (false≢true (cc))) (true-or-false (isOwned gtype))
   where
-    named : isOwned gtype ≡ true → reads caller gpa index ≡ reads guest at place
-        → ReadPlace s guest at place (word (wordAt s (frameOf hpa) index))
+    named : isOwned gtype ≡ true → reads caller gpa index ≡ reads guest at i
+        → ReadPlace s guest at i (word (wordAt s (frameOf hpa) index))
     named o h =
         let who : caller ≡ guest = cc in
         let where-at : gpa ≡ at = cc in
-        let which : index ≡ place = cc in
+        let which : index ≡ i = cc in
         record {
           range = rw (← who) (owned-access s false caller gpa hpa gtype ntype index p o);
           frame = frameOf hpa;
@@ -86,8 +86,8 @@ read-of-place s caller gpa hpa gtype ntype index p guest at place =
         }
 
     owned : isOwned gtype ≡ true
-        → pick (isOwned gtype) (reads caller gpa index) noEvent ≡ reads guest at place
-        → ReadPlace s guest at place (word (wordAt s (frameOf hpa) index))
+        → pick (isOwned gtype) (reads caller gpa index) noEvent ≡ reads guest at i
+        → ReadPlace s guest at i (word (wordAt s (frameOf hpa) index))
     owned o h = named o (sym (pick-true _ _ o) ∙ h)
 
 -- ---- WRITE

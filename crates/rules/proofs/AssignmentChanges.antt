@@ -19,10 +19,10 @@ use Rattle.rules.proofs.Consulted.{assigned-consulted, validated-consul
 use Rattle.rules.proofs.Effects.{Assigns, assigning-does, Validates, validating-does}
 use Rattle.rules.proofs.Holdings.{holding-same, unopened, of-another, of-its-own}
 use Rattle.rules.proofs.Passed.{Updated, Validated}
+use Rattle.rules.proofs.PlaceChanges.{places-one, stays, unchanged}
 use Rattle.rules.proofs.PlaceLaws.{place-apart, one-address, nothing-counts, page-counts}
 use Rattle.rules.proofs.Sound.{Sound}
 use Rattle.rules.proofs.Steps.{validated-again}
-use Rattle.rules.proofs.PlaceChanges.{places-one, stays, unchanged}
 
 -- ---- RMPUPDATE
 module _ (s : State) (sound : Sound s) (caller hpa gpa asid kind : ℕ) (before : Entry) (p : Updated s caller hpa gpa asid kind before)
@@ -30,7 +30,7 @@ module _ (s : State) (sound : Sound s) (caller hpa gpa asid kind : ℕ) (before 
   abbrev updated : State
   updated = assigning s (frameOf hpa) before gpa asid kind
 
-  update-effect : Assigns s updated (frameOf hpa) (entry asid kind false false gpa)
+  update-effect : Assigns s updated (frameOf hpa) before (entry asid kind false false gpa)
   update-effect = assigning-does s caller hpa gpa asid kind before p
 
   update-beside : (f : ℕ) → f ≢ frameOf hpa → holding updated guest f ≡ holding s guest f

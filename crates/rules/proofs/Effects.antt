@@ -6,6 +6,7 @@ use mathlib.Core.Bool.{Bool, true, false}
 use mathlib.Core.Logic.{_≢_}
 use Prim.Native.Nat.{ℕ, _<_}
 use native.Mathlib.Omega.{arith}
+use lib.Dec.{eqb}
 use Rattle.words.specs.Choice.{pick, _or_}
 use Rattle.entries.specs.Entry.{SHARED, MERGEABLE, frameOf, isOwned, isUnowned, entry, zeroEntry, wellFormed, toValidated, toFixed}
 use Rattle.entries.specs.Entry.{toUnfixed}
@@ -32,7 +33,7 @@ pub record Put (s u : State) (f : ℕ) (e : Entry) : Type 0 where
   pub elsewhere : (g : ℕ) → g ≢ f → entryAt u g ≡ entryAt s g
 
 -- a change of memory alone
-pub record MemoryOnly (s u : State) : Type 0 where
+record MemoryOnly (s u : State) : Type 0 where
   pub same-size : SameSize s u
   pub entries : (g : ℕ) → entryAt u g ≡ entryAt s g
 
@@ -78,18 +79,25 @@ unfolding pick
 kept-beside s f g i true apart = refl
 kept-beside s f g i false apart = word-beside-zeros s f g i apart
 
-pub record Assigns (s u : State) (f : ℕ) (e : Entry) : Type 0 where
+kept-here : (s : State) (f i : ℕ) (t : Bool) → wordAt (pick t s (withZeros s f)) f i ≡ pick t (wordAt s f i) 0
+unfolding pick
+kept-here s f i true = refl
+kept-here s f i false = word-after-zeros s f i
+
+pub record Assigns (s u : State) (f : ℕ) (old e : Entry) : Type 0 where
   pub put : Put s u f e
   pub words : (g i : ℕ) → g ≢ f → wordAt u g i ≡ wordAt s g i
+  pub words-here : (i : ℕ) → wordAt u f i ≡ pick (eqb (e .asid) (old .asid)) (wordAt s f i) 0
 
 pub assigning-does :
     (s : State) (caller hpa gpa asid kind : ℕ) (old : Entry) → Updated s caller hpa gpa asid kind old
-    → Assigns s (assigning s (frameOf hpa) old gpa asid kind) (frameOf hpa) (entry asid kind false false gpa)
-unfolding assigning
+    → Assigns s (assigning s (frameOf hpa) old gpa asid kind) (frameOf hpa) old (entry asid kind false false gpa)
+unfolding assigning entry
 assigning-does s caller hpa gpa asid kind old p =
     record {
       put = put-after (cleared s _ _) _ _ (p .inside) (update-fits caller hpa gpa asid kind (p .arguments) (N s));
       words = λ g i apart. word-after-entry _ _ _ g i ∙ kept-beside s _ g i _ apart;
+      words-here = λ i. word-after-entry _ _ _ _ i ∙ kept-here s _ i _;
     }
 
 -- ---- PVALIDATE
@@ -158,6 +166,7 @@ pub record Merges (s u : State) (leaf f2 : ℕ) (two : Entry) : Type 0 where
   pub is-leaf : isLeaf (entryAt s leaf) ≡ true
   pub apart : leaf ≢ f2
   pub words : (g i : ℕ) → g ≢ f2 → g ≢ leaf → wordAt u g i ≡ wordAt s g i
+  pub zeroed : (i : ℕ) → wordAt u f2 i ≡ 0
   pub leaf-word : wordAt u leaf (two .asid) ≡ presentAt (two .address)
   pub leaf-words : (i : ℕ) → i ≢ two .asid → wordAt u leaf i ≡ wordAt s leaf i
 
@@ -176,6 +185,7 @@ merging-does s caller hpa1 hpa2 one two p =
       is-leaf = is-leaf;
       apart = apart;
       words = λ g i other off. word-after-entry _ _ _ g i ∙ word-beside-zeros _ _ g i other ∙ word-elsewhere s _ _ _ g i off;
+      zeroed = λ i. word-after-entry _ _ _ _ i ∙ word-after-zeros _ _ i;
       leaf-word = word-after-entry _ _ _ _ _ ∙ word-beside-zeros _ _ _ _ apart ∙ word-after-word s _ _ _ (omega arith) small;
       leaf-words = λ i other. word-after-entry _ _ _ _ i ∙ word-beside-zeros _ _ _ i apart ∙ word-beside s _ _ _ _ i other;
     }
@@ -227,6 +237,7 @@ pub record Unfixes (s u : State) (f leaf : ℕ) (e : Entry) : Type 0 where
   pub leaf-here : entryAt u leaf ≡ Good zeroEntry
   pub elsewhere : (g : ℕ) → g ≢ f → g ≢ leaf → entryAt u g ≡ entryAt s g
   pub words : (g i : ℕ) → g ≢ leaf → wordAt u g i ≡ wordAt s g i
+  pub zeroed : (i : ℕ) → wordAt u leaf i ≡ 0
 
 unfixed-is :
     (e : Entry) (gpa : ℕ) → e .kind ≡ MERGEABLE → e .validated ≡ true → toUnfixed e gpa ≡ entry (e .asid) MERGEABLE true false gpa
@@ -243,16 +254,15 @@ unfixing-does s caller hpa old gpa p =
     let is-leaf = is-a-leaf s old (old .asid) (from-present (p .place)) in
     let apart = leaf-apart s _ _ old is-leaf (p .here) (not-a-leaf MERGEABLE (p .type) (omega arith)) in
     let address = consulted-address s old (old .asid) gpa (p .place) in
-    let fits = page-fits (N s) (old .asid) MERGEABLE true gpa (mergeable-owned _ refl) (t .owned-asid (mergeable-owned _ (p .type)))
-    (t .asid-small) address in
+    let some = t .owned-asid (mergeable-owned _ (p .type)) in
+    let fits = page-fits (N s) (old .asid) MERGEABLE true gpa (mergeable-owned _ refl) some (t .asid-small) address in
     let e = entry (old .asid) MERGEABLE true false gpa in
     let first = put-after (nothing-yet s) (frameOf hpa) e (p .inside) fits in
     let paged = withEntry s (frameOf hpa) e in
     let n : N paged ≡ N s = size-entry s _ e .same-N in
     let below : leafFrame old < N paged = rw n inside in
-    let second =
-    put-before (leafFrame old) zeroEntry (put-after (nothing-yet paged) _ zeroEntry below (zero-fits (N paged)))
-    (memory-zeros _ (leafFrame old)) in
+    let freed = put-after (nothing-yet paged) (leafFrame old) zeroEntry below (zero-fits (N paged)) in
+    let second = put-before (leafFrame old) zeroEntry freed (memory-zeros _ (leafFrame old)) in
     rw (unfixed-is old gpa (p .type) (t .fixed-validated (p .fixed)))
     (record {
       same-size = size-trans (first .same-size) (second .same-size);
@@ -262,4 +272,5 @@ unfixing-does s caller hpa old gpa p =
       leaf-here = second .here;
       elsewhere = λ g other off. second .elsewhere g off ∙ first .elsewhere g other;
       words = λ g i off. word-beside-zeros _ _ g i off ∙ word-after-entry paged _ zeroEntry g i ∙ word-after-entry s _ e g i;
+      zeroed = λ i. word-after-zeros _ _ i;
     })

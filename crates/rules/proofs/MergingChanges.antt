@@ -22,10 +22,10 @@ use Rattle.rules.proofs.Holdings.{present-there, absent-there, holding-
 use Rattle.rules.proofs.Holdings.{leaf-nothing}
 use Rattle.rules.proofs.Leaves.{consulted-is, unshared-word, shared-unowned}
 use Rattle.rules.proofs.Passed.{Fixed, Merged, Unmerged, Unfixed}
+use Rattle.rules.proofs.PlaceChanges.{stays, moves}
 use Rattle.rules.proofs.PlaceLaws.{place-apart}
 use Rattle.rules.proofs.Sound.{Sound}
 use Rattle.rules.proofs.StateLaws.{sizes, equal-words, same-good}
-use Rattle.rules.proofs.PlaceChanges.{stays, moves}
 
 -- ---- PFIX
 module _ (s : State) (sound : Sound s) (caller hpa leaf : ℕ) (before : Entry) (p : Fixed s caller hpa leaf before) (guest : ℕ) where

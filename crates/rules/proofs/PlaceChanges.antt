@@ -10,7 +10,7 @@ use Rattle.rules.specs.Census.{Holding, holds, nothing, holding, placeIn
 use Rattle.rules.specs.History.{reads, noEvent, isOpening, isClosing, written}
 use Rattle.rules.specs.State.{State, N, wordAt}
 use Rattle.rules.proofs.Changes.{Whence, old, Change}
-use Rattle.rules.proofs.PlaceLaws.{places-are, holding-inside, place-apart}
+use Rattle.rules.proofs.PlaceLaws.{placeAt, places-are, holding-inside, place-apart}
 use Rattle.rules.proofs.Sums.{sum-same, sum-one, sum-two}
 
 module _ (s u : State) (guest : ℕ) (size : N u ≡ N s) where
@@ -48,8 +48,8 @@ module _ (s u : State) (guest : ℕ) (size : N u ≡ N s) where
     places-moved gpa =
         let inside = holding-inside s guest at p from in
         let too : q < N s = rw (← size) (holding-inside u guest at q to) in
-        let two = sum-two (λ f. placeIn (holding s guest f) gpa) (λ f. placeIn (holding u guest f) gpa) p q (N s) inside too
-        (place-apart s guest at p q from free) (λ f off away. rw (same f off away)) in
+        let apart = place-apart s guest at p q from free in
+        let two = sum-two (placeAt s guest gpa) (placeAt u guest gpa) p q (N s) inside too apart (λ f off away. rw (same f off away)) in
         rw (places-are u guest gpa, places-are s guest gpa, size) (omega (arith, both-count gpa from free, both-count gpa to left))
 
     pub moves :

@@ -22,7 +22,7 @@ use Rattle.rules.proofs.StateLaws.{entry-inside}
 use Rattle.rules.proofs.Sums.{sum-term, sum-pair}
 
 -- a frame's part in the count
-abbrev placeAt : State → ℕ → ℕ → ℕ → ℕ
+abbrev pub placeAt : State → ℕ → ℕ → ℕ → ℕ
 placeAt s guest gpa f = placeIn (holding s guest f) gpa
 
 below-are : (s : State) (guest gpa n : ℕ) → placesBelow s guest gpa n ≡ sum (placeAt s guest gpa) n
@@ -30,7 +30,7 @@ unfolding placesBelow sum
 below-are s guest gpa zero = refl
 below-are s guest gpa (suc n) = rw (below-are s guest gpa n)
 
-pub places-are : (s : State) (guest gpa : ℕ) → places s guest gpa ≡ sum (λ f. placeIn (holding s guest f) gpa) (N s)
+pub places-are : (s : State) (guest gpa : ℕ) → places s guest gpa ≡ sum (placeAt s guest gpa) (N s)
 unfolding places
 places-are s guest gpa = below-are s guest gpa (N s)
 

@@ -17,9 +17,9 @@ use Rattle.rules.proofs.Changes.{Change}
 use Rattle.rules.proofs.MergingChanges.{fix-change, merge-change, unmerge-change, unfix-change}
 use Rattle.rules.proofs.Passed.{rmpupdate-cases, pvalidate-cases, pfix-cases, pmerge-cases, punmerge-cases, punfix-cases}
 use Rattle.rules.proofs.Passed.{read-cases, write-cases}
+use Rattle.rules.proofs.PlaceChanges.{unchanged}
 use Rattle.rules.proofs.Sound.{Sound}
 use Rattle.rules.proofs.Steps.{census-keeps}
-use Rattle.rules.proofs.PlaceChanges.{unchanged}
 
 -- a refused call is no event
 refused-event : (c : Call) (n : ℕ) → eventOf c (refused n) ≡ noEvent

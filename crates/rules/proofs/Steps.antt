@@ -29,8 +29,8 @@ refused-kept : (s : State) (n : ℕ) → Reason s n → RefusedFor s (outcome (r
 refused-kept s n why m h = let same : n ≡ m = cc in (refl, rw same at why)
 
 -- an answer that is no refusal has nothing to show
-accepted : (s : State) (a : Told) (u : State) → ((n : ℕ) → a ≡ refused n → ⊥) → RefusedFor s (outcome a u)
-accepted s a u never n h = absurd (never n h)
+not-refused : (s : State) (a : Told) (u : State) → ((n : ℕ) → a ≡ refused n → ⊥) → RefusedFor s (outcome a u)
+not-refused s a u never n h = absurd (never n h)
 
 done-accepts : (n : ℕ) → done ≡ refused n → ⊥
 done-accepts n h = absurd (false≢true (cc))
@@ -54,20 +54,20 @@ validate-accepts old n = go (old .validated)
 refusal : (s : State) (c : Call) → RefusedFor s (step s c)
 unfolding step
 refusal s (RMPUPDATE caller hpa gpa asid kind) =
-    rmpupdate-cases (RefusedFor s) s (refused-kept s) caller hpa gpa asid kind (λ old p. accepted s _ _ (update-accepts old))
+    rmpupdate-cases (RefusedFor s) s (refused-kept s) caller hpa gpa asid kind (λ old p. not-refused s _ _ (update-accepts old))
 refusal s (PVALIDATE caller gpa hpa kind) =
-    pvalidate-cases (RefusedFor s) s (refused-kept s) caller gpa hpa kind (λ old p. accepted s _ _ (validate-accepts old))
-refusal s (PFIX caller hpa leaf) = pfix-cases (RefusedFor s) s (refused-kept s) caller hpa leaf (λ old p. accepted s _ _ done-accepts)
+    pvalidate-cases (RefusedFor s) s (refused-kept s) caller gpa hpa kind (λ old p. not-refused s _ _ (validate-accepts old))
+refusal s (PFIX caller hpa leaf) = pfix-cases (RefusedFor s) s (refused-kept s) caller hpa leaf (λ old p. not-refused s _ _ done-accepts)
 refusal s (PMERGE caller hpa1 hpa2) =
-    pmerge-cases (RefusedFor s) s (refused-kept s) caller hpa1 hpa2 (λ one two p. accepted s _ _ done-accepts)
+    pmerge-cases (RefusedFor s) s (refused-kept s) caller hpa1 hpa2 (λ one two p. not-refused s _ _ done-accepts)
 refusal s (PUNMERGE caller hpa1 hpa2 asid) =
-    punmerge-cases (RefusedFor s) s (refused-kept s) caller hpa1 hpa2 asid (λ one two gpa p. accepted s _ _ done-accepts)
-refusal s (PUNFIX caller hpa) = punfix-cases (RefusedFor s) s (refused-kept s) caller hpa (λ old gpa p. accepted s _ _ done-accepts)
+    punmerge-cases (RefusedFor s) s (refused-kept s) caller hpa1 hpa2 asid (λ one two gpa p. not-refused s _ _ done-accepts)
+refusal s (PUNFIX caller hpa) = punfix-cases (RefusedFor s) s (refused-kept s) caller hpa (λ old gpa p. not-refused s _ _ done-accepts)
 refusal s (READ caller gpa hpa gtype ntype index) =
-    read-cases (RefusedFor s) s (refused-kept s) caller gpa hpa gtype ntype index (λ p. accepted s _ _ λ n h. absurd (false≢true (cc)))
+    read-cases (RefusedFor s) s (refused-kept s) caller gpa hpa gtype ntype index (λ p. not-refused s _ _ λ n h. absurd (false≢true (cc)))
 refusal s (WRITE caller gpa hpa gtype ntype index value) =
-    write-cases (RefusedFor s) s (refused-kept s) caller gpa hpa gtype ntype index value (λ p. accepted s _ _ done-accepts)
-refusal s (CENSUS asid) = census-cases (RefusedFor s) s (refused-kept s) asid (λ m p. accepted s _ _ λ n h. absurd (false≢true (cc)))
+    write-cases (RefusedFor s) s (refused-kept s) caller gpa hpa gtype ntype index value (λ p. not-refused s _ _ done-accepts)
+refusal s (CENSUS asid) = census-cases (RefusedFor s) s (refused-kept s) asid (λ m p. not-refused s _ _ λ n h. absurd (false≢true (cc)))
 
 pub refused-keeps : (s : State) (c : Call) (n : ℕ) → step s c .told ≡ refused n → step s c .after ≡ s
 refused-keeps s c n h = refusal s c n h .0
