@@ -2,7 +2,7 @@
 ghost use mathlib.Core.Path.{_≡_};
 ghost use Rattle.entries.specs.Entry.{isAddress, frameOf, isParty, isGuest, isOwned, isUnowned};
 ghost use Rattle.entries.specs.Entry.{asidFits, flagsFit, addressFits, wellFormed, fields, decoded};
-ghost use Rattle.entries.specs.Entry.{bit, encoded, toValidated, toFixed, toUnfixed, toMoved};
+ghost use Rattle.entries.specs.Entry.{zeroEntry, bit, encoded, toValidated, toFixed, toUnfixed, toMoved};
 
 // The types of a page.
 pub const SHARED: u64 = 0;
@@ -83,6 +83,19 @@ fn bit(b: bool) -> u64
 }
 
 impl Entry {
+    // The entry of two zero words: SHARED.
+    pub fn zero() -> Entry
+        ensures { λ r. ⌜ r ≡ zeroEntry ⌝ }
+    {
+        Entry {
+            asid: 0,
+            kind: SHARED,
+            validated: false,
+            fixed: false,
+            address: 0,
+        }
+    }
+
     // Whether the ASID is one that the type allows.
     fn asid_fits(self) -> bool
         ensures { λ r. ⌜ r ≡ asidFits self ⌝ }

@@ -1,0 +1,55 @@
+-- The tally of a guest, frame by frame: what one frame more makes of it, and that a tally which has met a refusal keeps it, however
+-- many frames follow.
+-- Assumes nothing.
+use mathlib.Core.Path.{_≡_}
+use Prim.Native.Nat.{ℕ, zero, suc, _+_, _<_, _≤_}
+use native.Mathlib.Decide.{ℕ-discrete}
+use native.Mathlib.Numerals.{add-one}
+use native.Mathlib.Omega.{arith}
+use Rattle.rules.specs.Census.{holds, nothing, fails, total, stopped, holding, counted, tally}
+use Rattle.rules.specs.Census as rules
+use Rattle.rules.specs.State.{State}
+use Rattle.checks.specs.Answer.{number}
+use Rattle.checks.specs.declared.answer.Refusal.{Refusal}
+use Rattle.access.specs.Census.{held, tallied}
+use Rattle.access.specs.declared.census.Holding.{Holding}
+use Rattle.access.specs.declared.census.Tally.{Tally}
+use Rattle.access.specs.declared.census.Tally.the-variants.{Total, Stopped}
+
+pub tally-next :
+    (s : State) (guest frame places : ℕ) → tally s guest frame ≡ total places
+    → tally s guest (frame + 1) ≡ counted (total places) (holding s guest frame)
+unfolding tally
+tally-next s guest frame places h = rw (add-one, h)
+
+pub tally-stays :
+    (s : State) (guest frame number n : ℕ) → tally s guest frame ≡ stopped number → frame ≤ n → tally s guest n ≡ stopped number
+unfolding tally counted
+tally-stays s guest frame number zero h below = let z : frame ≡ 0 = omega arith in rw z at h
+tally-stays s guest frame number (suc n) h below =
+    elim (ℕ-discrete frame (suc n)) [
+      | yes e ↦ rw e at h
+      | no e ↦ rw (tally-stays s guest frame number n h (omega (arith, e)))
+    ]
+
+-- a frame adds one place at most
+pub at-most-one : (places more : ℕ) (here : rules.Holding) → counted (total places) here ≡ total more → more ≤ places + 1
+unfolding counted
+at-most-one places more (holds gpa) e = let h : places + 1 ≡ more = cc in omega arith
+at-most-one places more nothing e = let h : places ≡ more = cc in omega arith
+at-most-one places more (fails number) e = let z : _≡_ {A = ℕ} 0 1 = cc in absurd (omega arith)
+
+-- one turn of the loop: `next` is what the frame makes of the tally so far
+module _
+    (s : State) (guest frame places : ℕ) (here : Holding) (next : Tally) (so-far : tally s guest frame ≡ total places)
+    (found : held here ≡ holding s guest frame) (added : tallied next ≡ counted (total places) (held here)) where
+  one-more : tally s guest (frame + 1) ≡ tallied next
+  one-more = cc (tally-next s guest frame places so-far)
+
+  pub left-off : (r : Refusal) (n : ℕ) → next ≡ Stopped r → frame < n → tallied next ≡ tally s guest n
+  left-off r n e below =
+      let met : tally s guest (frame + 1) ≡ stopped (number r) = rw e at one-more in
+      rw (e, tally-stays s guest (frame + 1) (number r) n met (omega arith))
+
+  pub goes-on : (more : ℕ) → next ≡ Total more → (more ≤ places + 1) × (tally s guest (frame + 1) ≡ total more)
+  goes-on more e = (at-most-one places more (held here) (cc), rw e at one-more)

@@ -1,0 +1,55 @@
+use Rattle.rules.specs.Census.{census, reported}
+use Rattle.rules.specs.Answers.{settle}
+use Rattle.checks.specs.Gate.{past}
+use Rattle.rules.specs.State.{N}
+use borrow.Author.Needs.{needs}
+use Rattle.access.proofs.census.census.Statement.{statement}
+use Rattle.access.proofs.census.census.Tie as tie
+use Rattle.access.proofs.census.census.Reads as reads
+use Rattle.access.proofs.census.census.Lts as lts
+use Rattle.access.proofs.census.count_places.Reads as count-places-reads
+use Rattle.checks.proofs.begin.census.Reads as census-reads
+
+census-requires : tie.Need-census-requires
+census-requires c κs = search needs
+
+enum-known-begun : tie.Need-enum-known-begun
+enum-known-begun c = search needs
+
+returns : tie.Need-returns
+unfolding census settle past reported N
+returns c = rw (← c .before .before .before .census .ensures, c .before .begun .given .1)
+
+enum-told : tie.Need-enum-told
+enum-told c = search needs
+
+count-places-requires : tie.Need-count-places-requires
+count-places-requires c κs = search needs
+
+enum-known-counted : tie.Need-enum-known-counted
+enum-known-counted c = search needs
+
+enum-known-counted-2 : tie.Need-enum-known-counted-2
+enum-known-counted-2 c = search needs
+
+returns-2 : tie.Need-returns-2
+unfolding census settle past reported N
+returns-2 c = rw (← c .before .before .before .before .before .before .census .ensures, c .before .before .before .before .enum-told .given .1, ← c .before .before .before .count-places .ensures, c .before .counted .given .1)
+
+returns-3 : tie.Need-returns-3
+unfolding census settle past reported N
+returns-3 c = rw (← c .before .before .before .before .before .before .census .ensures, c .before .before .before .before .enum-told .given .1, ← c .before .before .before .count-places .ensures, c .before .counted2 .given .1)
+
+pub census-spec : {M : Type 1} → statement M
+census-spec =
+    tie.close
+    (tie.spec
+    census-requires
+    enum-known-begun
+    returns
+    enum-told
+    count-places-requires
+    enum-known-counted
+    enum-known-counted-2
+    returns-2
+    returns-3)

@@ -1,0 +1,57 @@
+use Rattle.rules.specs.Census.{holding, inEntry}
+use Rattle.rules.specs.State.{entryAt}
+use Rattle.words.proofs.ChoiceLaws.{pick-true, pick-false}
+use Rattle.words.specs.Choice.{_and_}
+use borrow.Author.Needs.{needs}
+use Rattle.access.proofs.census.holding_at.Statement.{statement}
+use Rattle.access.proofs.census.holding_at.Tie as tie
+use Rattle.access.proofs.census.holding_at.Reads as reads
+use Rattle.access.proofs.census.holding_at.Lts as lts
+use Rattle.access.proofs.census.in_leaf.Reads as in-leaf-reads
+use Rattle.checks.proofs.leaves.consulted.Reads as consulted-reads
+use Rattle.entries.proofs.table.read.Reads as read-reads
+
+read-requires : tie.Need-read-requires
+read-requires c κs = search needs
+
+enum-known-page : tie.Need-enum-known-page
+enum-known-page c = search needs
+
+enum-told : tie.Need-enum-told
+enum-told c = search needs
+
+returns : tie.Need-returns
+unfolding holding inEntry entryAt _and_
+returns c = rw (← c .before .before .read .ensures, c .enum-told .given .1)
+
+consulted-requires : tie.Need-consulted-requires
+consulted-requires c κs = search needs
+
+in-leaf-requires : tie.Need-in-leaf-requires
+in-leaf-requires c κs = search needs
+
+returns-2 : tie.Need-returns-2
+unfolding holding inEntry entryAt _and_
+returns-2 c = rw (← c .before .before .before .before .before .before .read .ensures, c .before .before .before .before .page .given .1, pick-true _ _ (c .before .before .if1 .taken), c .in-leaf .ensures, c .before .consulted .ensures)
+
+returns-3 : tie.Need-returns-3
+unfolding holding inEntry entryAt _and_
+returns-3 c = rw (← c .before .before .before .before .before .before .before .read .ensures, c .before .before .before .before .before .page .given .1, pick-false _ _ (c .before .before .before .if1 .left), pick-true _ _ (c .if2 .taken))
+
+returns-4 : tie.Need-returns-4
+unfolding holding inEntry entryAt _and_
+returns-4 c = rw (← c .before .before .before .before .before .before .before .read .ensures, c .before .before .before .before .before .page .given .1, pick-false _ _ (c .before .before .before .if1 .left), pick-false _ _ (c .if2 .left))
+
+pub holding-at-spec : {M : Type 1} → statement M
+holding-at-spec =
+    tie.close
+    (tie.spec
+    read-requires
+    enum-known-page
+    enum-told
+    returns
+    consulted-requires
+    in-leaf-requires
+    returns-2
+    returns-3
+    returns-4)

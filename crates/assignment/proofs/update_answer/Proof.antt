@@ -1,0 +1,17 @@
+use Rattle.rules.specs.Assignment.{updateAnswer}
+use Rattle.words.specs.Choice.{pick}
+use Rattle.assignment.proofs.update_answer.Statement.{statement}
+use Rattle.assignment.proofs.update_answer.Tie as tie
+use Rattle.assignment.proofs.update_answer.Reads as reads
+use Rattle.assignment.proofs.update_answer.Lts as lts
+
+returns : tie.Need-returns
+unfolding updateAnswer pick
+returns c = rw (c .if1 .taken)
+
+returns-2 : tie.Need-returns-2
+unfolding updateAnswer pick
+returns-2 c = rw (c .if1 .left)
+
+pub update-answer-spec : {M : Type 1} → statement M
+update-answer-spec = tie.close (tie.spec returns returns-2)

@@ -1,0 +1,111 @@
+// RMPUPDATE and PVALIDATE: the host gives a frame to a guest, and the guest accepts it.
+ghost use mathlib.Core.Path.{_≡_};
+ghost use Rattle.words.specs.Choice.{pick};
+ghost use Rattle.words.specs.Frame.{zeroFrame};
+ghost use Rattle.rules.specs.Assignment.{rmpupdate, updateAnswer, pvalidate, validateAnswer};
+ghost use Rattle.rules.specs.State.{state};
+ghost use Rattle.checks.specs.Answer.{told, gave};
+use checks::answer::Answer;
+use checks::answer::Refusal;
+use checks::begin;
+use checks::gate::Gate;
+use checks::gates;
+use entries::entry::Decoded;
+use entries::entry::Entry;
+use entries::entry::frame_of;
+use entries::table;
+use words::frame;
+
+// The host gives the frame at `hpa` to the guest `asid` at its address `gpa`, as a page of the type `kind`, or takes it back.
+pub fn rmpupdate(
+    table: &mut [u64],
+    memory: &mut [u64],
+    caller: u64,
+    hpa: u64,
+    gpa: u64,
+    asid: u64,
+    kind: u64,
+) -> Answer
+    ensures { λ r. ⌜ gave r (now (table .exit)) (now (memory .exit)) ≡ rmpupdate (state (now (table .entry)) (now (memory .entry))) caller hpa gpa asid kind ⌝ }
+{
+    let begun = begin::rmpupdate(table, memory, caller, hpa, gpa, asid, kind);
+    if let Gate::Shut(refusal) = begun {
+        return Answer::Refused(refusal);
+    }
+    let frame = frame_of(hpa);
+    let Decoded::Good(old) = table::read(table, frame) else {
+        return Answer::Refused(Refusal::BadEntry);
+    };
+    let met = gates::rmpupdate(old);
+    if let Gate::Shut(refusal) = met {
+        return Answer::Refused(refusal);
+    }
+    zero_unless(memory, frame, asid == old.asid);
+    let new = Entry {
+        asid,
+        kind,
+        validated: false,
+        fixed: false,
+        address: gpa,
+    };
+    table::put(table, frame, new);
+    update_answer(old)
+}
+
+// The frame is zeroed, unless its owner stays.
+fn zero_unless(memory: &mut [u64], frame: usize, stays: bool)
+    ensures { λ _. ⌜ now (memory .exit) ≡ pick stays (now (memory .entry)) (zeroFrame (now (memory .entry)) frame) ⌝ }
+{
+    if stays {
+        return;
+    }
+    frame::zero(memory, frame);
+}
+
+fn update_answer(old: Entry) -> Answer
+    ensures { λ r. ⌜ told r ≡ updateAnswer old ⌝ }
+{
+    if old.validated {
+        return Answer::Closed {
+            asid: old.asid,
+            gpa: old.address,
+        };
+    }
+    Answer::None
+}
+
+// The guest `caller` accepts the frame at `hpa` as its page at `gpa`.
+pub fn pvalidate(
+    table: &mut [u64],
+    memory: &[u64],
+    caller: u64,
+    gpa: u64,
+    hpa: u64,
+    kind: u64,
+) -> Answer
+    ensures { λ r. ⌜ gave r (now (table .exit)) (now (memory .entry)) ≡ pvalidate (state (now (table .entry)) (now (memory .entry))) caller gpa hpa kind ⌝ }
+{
+    let begun = begin::pvalidate(table, memory, caller, gpa, hpa, kind);
+    if let Gate::Shut(refusal) = begun {
+        return Answer::Refused(refusal);
+    }
+    let frame = frame_of(hpa);
+    let Decoded::Good(page) = table::read(table, frame) else {
+        return Answer::Refused(Refusal::BadEntry);
+    };
+    let met = gates::pvalidate(page, caller, gpa, kind);
+    if let Gate::Shut(refusal) = met {
+        return Answer::Refused(refusal);
+    }
+    table::put(table, frame, page.to_validated());
+    validate_answer(page)
+}
+
+fn validate_answer(page: Entry) -> Answer
+    ensures { λ r. ⌜ told r ≡ validateAnswer page ⌝ }
+{
+    if page.validated {
+        return Answer::Already;
+    }
+    Answer::Opened
+}

@@ -1,0 +1,12 @@
+use Rattle.rules.specs.Arguments.{isHost}
+use Rattle.checks.proofs.arguments.is_host.Statement.{statement}
+use Rattle.checks.proofs.arguments.is_host.Tie as tie
+use Rattle.checks.proofs.arguments.is_host.Reads as reads
+use Rattle.checks.proofs.arguments.is_host.Lts as lts
+
+returns : tie.Need-returns
+unfolding isHost
+returns c = cc
+
+pub is-host-spec : {M : Type 1} → statement M
+is-host-spec = tie.close (tie.spec returns)

@@ -1,0 +1,22 @@
+use Rattle.rules.specs.Arguments.{oneFrameArguments}
+use Rattle.words.specs.Choice.{_and_}
+use borrow.Author.Needs.{needs}
+use Rattle.checks.proofs.arguments.one_frame.Statement.{statement}
+use Rattle.checks.proofs.arguments.one_frame.Tie as tie
+use Rattle.checks.proofs.arguments.one_frame.Reads as reads
+use Rattle.checks.proofs.arguments.one_frame.Lts as lts
+use Rattle.entries.proofs.entry.is_address.Reads as is-address-reads
+use Rattle.entries.proofs.entry.is_party.Reads as is-party-reads
+
+is-party-requires : tie.Need-is-party-requires
+is-party-requires c κs = search needs
+
+is-address-requires : tie.Need-is-address-requires
+is-address-requires c κs = search needs
+
+returns : tie.Need-returns
+unfolding oneFrameArguments _and_
+returns c = rw (c .is-address .ensures, c .before .is-party .ensures)
+
+pub one-frame-spec : {M : Type 1} → statement M
+one-frame-spec = tie.close (tie.spec is-party-requires is-address-requires returns)

@@ -1,0 +1,26 @@
+use Rattle.rules.specs.Arguments.{twoFrameArguments}
+use Rattle.words.specs.Choice.{_and_}
+use borrow.Author.Needs.{needs}
+use Rattle.checks.proofs.arguments.two_frames.Statement.{statement}
+use Rattle.checks.proofs.arguments.two_frames.Tie as tie
+use Rattle.checks.proofs.arguments.two_frames.Reads as reads
+use Rattle.checks.proofs.arguments.two_frames.Lts as lts
+use Rattle.entries.proofs.entry.is_address.Reads as is-address-reads
+use Rattle.entries.proofs.entry.is_party.Reads as is-party-reads
+
+is-party-requires : tie.Need-is-party-requires
+is-party-requires c κs = search needs
+
+is-address-requires : tie.Need-is-address-requires
+is-address-requires c κs = search needs
+
+is-address-requires-2 : tie.Need-is-address-requires-2
+is-address-requires-2 c κs = search needs
+
+returns : tie.Need-returns
+unfolding twoFrameArguments _and_
+returns c = rw (c .is-address2 .ensures, c .before .is-address .ensures, c .before .before .is-party .ensures)
+
+pub two-frames-spec : {M : Type 1} → statement M
+two-frames-spec =
+    tie.close (tie.spec is-party-requires is-address-requires is-address-requires-2 returns)

@@ -1,0 +1,28 @@
+use Rattle.checks.specs.Gate.{past}
+use Rattle.checks.specs.Needs.{kindMet}
+use Rattle.words.specs.Choice.{pick}
+use borrow.Author.Needs.{needs}
+use Rattle.checks.proofs.gates.access_type.Statement.{statement}
+use Rattle.checks.proofs.gates.access_type.Tie as tie
+use Rattle.checks.proofs.gates.access_type.Reads as reads
+use Rattle.checks.proofs.gates.access_type.Lts as lts
+use Rattle.checks.proofs.gate.go_on.Reads as go-on-reads
+use Rattle.checks.proofs.gates.access_need.Reads as access-need-reads
+use Rattle.checks.proofs.needs.Need.kind_met.Reads as kind-met-reads
+
+access-need-requires : tie.Need-access-need-requires
+access-need-requires c κs = search needs
+
+kind-met-requires : tie.Need-kind-met-requires
+kind-met-requires c κs = search needs
+
+go-on-requires : tie.Need-go-on-requires
+go-on-requires c κs = search needs
+
+returns : tie.Need-returns
+unfolding past kindMet pick
+returns c = λ v. rw (c .go-on .ensures v, c .before .kind-met .ensures, c .before .before .access-need .ensures)
+
+pub access-type-spec : {M : Type 1} → statement M
+access-type-spec =
+    tie.close (tie.spec access-need-requires kind-met-requires go-on-requires returns)

@@ -1,0 +1,36 @@
+use mathlib.Core.Path.{_≡_, refl}
+use mathlib.Core.Bool.{Bool, true, false, not}
+use Rattle.checks.specs.Gate.{past}
+use Rattle.rules.specs.Answers.{when}
+use Rattle.checks.specs.Needs.{flagMet, CLEAR, EITHER}
+use Rattle.words.specs.Choice.{pick}
+use borrow.Author.Needs.{needs}
+use Rattle.checks.proofs.gates.fixed_access.Statement.{statement}
+use Rattle.checks.proofs.gates.fixed_access.Tie as tie
+use Rattle.checks.proofs.gates.fixed_access.Reads as reads
+use Rattle.checks.proofs.gates.fixed_access.Lts as lts
+use Rattle.checks.proofs.gate.go_on.Reads as go-on-reads
+use Rattle.checks.proofs.gates.access_need.Reads as access-need-reads
+use Rattle.checks.proofs.needs.Need.fixed_met.Reads as fixed-met-reads
+
+access-need-requires : tie.Need-access-need-requires
+access-need-requires c κs = search needs
+
+fixed-met-requires : tie.Need-fixed-met-requires
+fixed-met-requires c κs = search needs
+
+go-on-requires : tie.Need-go-on-requires
+go-on-requires c κs = search needs
+
+by-row : (writes : Bool) → flagMet (pick writes CLEAR EITHER) true ≡ not writes
+unfolding flagMet pick
+by-row true = refl
+by-row false = refl
+
+returns : tie.Need-returns
+unfolding past when
+returns c = λ v. rw (c .go-on .ensures v, c .before .fixed-met .ensures, c .before .before .access-need .ensures, by-row _)
+
+pub fixed-access-spec : {M : Type 1} → statement M
+fixed-access-spec =
+    tie.close (tie.spec access-need-requires fixed-met-requires go-on-requires returns)

@@ -1,0 +1,26 @@
+use lib.ListN.{List·getD-eq-default}
+use mathlib.Core.Path.{refl}
+use Rattle.checks.specs.Needs.{needsOf, needsTable, row, need}
+use borrow.Author.Tests.{lt-ltb, le-ltb}
+use borrow.Author.Needs.{needs}
+use Rattle.checks.proofs.needs.needs.Statement.{statement}
+use Rattle.checks.proofs.needs.needs.Tie as tie
+use Rattle.checks.proofs.needs.needs.Reads as reads
+use Rattle.checks.proofs.needs.needs.Lts as lts
+
+mul-result : tie.Need-mul-result
+mul-result c = search needs
+
+array-copy-out-result : tie.Need-array-copy-out-result
+array-copy-out-result c = search needs
+
+returns : tie.Need-returns
+unfolding needsOf needsTable
+returns c = refl
+
+returns-2 : tie.Need-returns-2
+unfolding needsOf needsTable
+returns-2 c = rw (List·getD-eq-default needsTable (row (need 0 0 0) (need 0 0 0)) (c .if1 .left))
+
+pub needs-spec : {M : Type 1} → statement M
+needs-spec = tie.close (tie.spec mul-result array-copy-out-result returns returns-2)

@@ -1,0 +1,46 @@
+-- "When an answer is an enum, a definition gives this paper's number and values for each of its cases." (01, "How to write each place")
+use mathlib.Core.List.{List}
+use Prim.Native.Nat.{ℕ}
+use Rattle.rules.specs.Answers.{Told, refused, done, none, closed, opened, already, word, count, Outcome, outcome}
+use Rattle.rules.specs.Refusals.{GEOMETRY, ARGUMENT, CALLER, OUTSIDE, BAD-ENTRY, TYPE, OWNER, ADDRESS, NOT-VALIDATED}
+use Rattle.rules.specs.Refusals.{FIXED, NOT-FIXED, BROKEN-LEAF, NO-PLACE, PLACE-TAKEN, LEAF-IN-USE, CONTENTS, STILL-SHARED}
+use Rattle.rules.specs.State.{state}
+use Rattle.checks.specs.declared.answer.Refusal.{Refusal}
+use Rattle.checks.specs.declared.answer.Refusal.the-variants.{Geometry, Argument, Caller, Outside, BadEntry, PageType, Owner}
+use Rattle.checks.specs.declared.answer.Refusal.the-variants.{Address, NotValidated, Fixed, NotFixed, BrokenLeaf, NoPlace}
+use Rattle.checks.specs.declared.answer.Refusal.the-variants.{PlaceTaken, LeafInUse, Contents, StillShared}
+use Rattle.checks.specs.declared.answer.Answer.{Answer}
+use Rattle.checks.specs.declared.answer.Answer.the-variants.{Refused, Done, None, Closed, Opened, Already, Word, Count}
+
+abbrev pub number : Refusal → ℕ
+number Geometry = GEOMETRY
+number Argument = ARGUMENT
+number Caller = CALLER
+number Outside = OUTSIDE
+number BadEntry = BAD-ENTRY
+number PageType = TYPE
+number Owner = OWNER
+number Address = ADDRESS
+number NotValidated = NOT-VALIDATED
+number Fixed = FIXED
+number NotFixed = NOT-FIXED
+number BrokenLeaf = BROKEN-LEAF
+number NoPlace = NO-PLACE
+number PlaceTaken = PLACE-TAKEN
+number LeafInUse = LEAF-IN-USE
+number Contents = CONTENTS
+number StillShared = STILL-SHARED
+
+abbrev pub told : Answer → Told
+told (Refused r) = refused (number r)
+told Done = done
+told None = none
+told (Closed asid gpa) = closed asid gpa
+told Opened = opened
+told Already = already
+told (Word w) = word w
+told (Count n) = count n
+
+-- a call's answer with the table and memory that it left, as an outcome of the rules
+abbrev pub gave : Answer → List ℕ → List ℕ → Outcome
+gave answer table memory = outcome (told answer) (state table memory)

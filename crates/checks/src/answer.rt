@@ -1,0 +1,67 @@
+// What a call answers.
+ghost use mathlib.Core.Path.{_≡_};
+ghost use Rattle.checks.specs.Answer.{number};
+
+// Why a call was refused.
+pub enum Refusal {
+    Geometry,
+    Argument,
+    Caller,
+    Outside,
+    BadEntry,
+    PageType,
+    Owner,
+    Address,
+    NotValidated,
+    Fixed,
+    NotFixed,
+    BrokenLeaf,
+    NoPlace,
+    PlaceTaken,
+    LeafInUse,
+    Contents,
+    StillShared,
+}
+
+impl Refusal {
+    // Its number in the rules.
+    pub fn number(self) -> u64
+        ensures { λ r. ⌜ r ≡ number self ⌝ }
+    {
+        match self {
+            Refusal::Geometry => 1,
+            Refusal::Argument => 2,
+            Refusal::Caller => 3,
+            Refusal::Outside => 4,
+            Refusal::BadEntry => 5,
+            Refusal::PageType => 6,
+            Refusal::Owner => 7,
+            Refusal::Address => 8,
+            Refusal::NotValidated => 9,
+            Refusal::Fixed => 10,
+            Refusal::NotFixed => 11,
+            Refusal::BrokenLeaf => 12,
+            Refusal::NoPlace => 13,
+            Refusal::PlaceTaken => 14,
+            Refusal::LeafInUse => 15,
+            Refusal::Contents => 16,
+            Refusal::StillShared => 17,
+        }
+    }
+}
+
+pub enum Answer {
+    Refused(Refusal),
+    // PFIX, PMERGE, PUNMERGE, PUNFIX and WRITE
+    Done,
+    // RMPUPDATE
+    None,
+    Closed { asid: u64, gpa: u64 },
+    // PVALIDATE
+    Opened,
+    Already,
+    // READ
+    Word(u64),
+    // CENSUS
+    Count(u64),
+}

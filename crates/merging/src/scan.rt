@@ -1,0 +1,49 @@
+// The two checks that look through a whole run: who uses a leaf, and who is left in one.
+ghost use mathlib.Core.Path.{_≡_};
+ghost use mathlib.Core.List.{List};
+ghost use Prim.Native.Nat.{ℕ};
+ghost use Rattle.entries.specs.Table.{covered};
+ghost use Rattle.rules.specs.Leaves.{namesLeaf, leafInUse, stillShared};
+ghost use Rattle.rules.specs.State.{state};
+use entries::entry::Decoded;
+use entries::table;
+use words::frame;
+
+fn names_leaf(decoded: Decoded, leaf: u64) -> bool
+    ensures { λ r. ⌜ r ≡ namesLeaf decoded leaf ⌝ }
+{
+    let Decoded::Good(e) = decoded else {
+        return false;
+    };
+    e.fixed & (e.address == leaf)
+}
+
+// 15: whether some well formed FIXED entry names the leaf at this address.
+pub fn leaf_in_use(table: &[u64], leaf: u64) -> bool
+    ensures { λ r. ⌜ ((memory : List ℕ) → r ≡ leafInUse (state (now (table .entry)) memory) leaf (covered (now (table .entry)))) ⌝ }
+{
+    let n = table::covered(table);
+    let mut frame = 0;
+    while frame < n {
+        let named = names_leaf(table::read(table, frame), leaf);
+        if named {
+            return true;
+        }
+        frame += 1;
+    }
+    false
+}
+
+// 17: whether a word of this leaf frame, other than the owner's, has bit 0 set.
+pub fn still_shared(memory: &[u64], frame: usize, owner: u64) -> bool
+    ensures { λ r. ⌜ ((table : List ℕ) → r ≡ stillShared (state table (now (memory .entry))) frame owner 512) ⌝ }
+{
+    let mut shared = false;
+    let mut guest = 0;
+    while guest < 512 {
+        let word = frame::word(memory, frame, guest);
+        shared = shared | (!(guest as u64 == owner) & (word % 2 == 1));
+        guest += 1;
+    }
+    shared
+}
