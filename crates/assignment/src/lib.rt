@@ -2,7 +2,7 @@
 ghost use mathlib.Core.Path.{_≡_};
 ghost use Rattle.words.specs.Choice.{pick};
 ghost use Rattle.words.specs.Frame.{zeroFrame};
-ghost use Rattle.rules.specs.Assignment.{rmpupdate, updateAnswer, pvalidate, validateAnswer};
+ghost use Rattle.rules.specs.Assignment.{rmpupdate, assigning, updateAnswer, pvalidate, validateAnswer};
 ghost use Rattle.rules.specs.State.{state};
 ghost use Rattle.checks.specs.Answer.{told, gave};
 use checks::answer::Answer;
@@ -40,6 +40,22 @@ pub fn rmpupdate(
     if let Gate::Shut(refusal) = met {
         return Answer::Refused(refusal);
     }
+    assign(table, memory, frame, old, gpa, asid, kind);
+    update_answer(old)
+}
+
+// What an accepted RMPUPDATE does.
+fn assign(
+    table: &mut [u64],
+    memory: &mut [u64],
+    frame: usize,
+    old: Entry,
+    gpa: u64,
+    asid: u64,
+    kind: u64,
+)
+    ensures { λ _. ⌜ state (now (table .exit)) (now (memory .exit)) ≡ assigning (state (now (table .entry)) (now (memory .entry))) frame old gpa asid kind ⌝ }
+{
     zero_unless(memory, frame, asid == old.asid);
     let new = Entry {
         asid,
@@ -49,7 +65,6 @@ pub fn rmpupdate(
         address: gpa,
     };
     table::put(table, frame, new);
-    update_answer(old)
 }
 
 // The frame is zeroed, unless its owner stays.

@@ -1,13 +1,23 @@
 // PFIX and PUNFIX: a page gets a leaf, and gives it back.
 ghost use mathlib.Core.Path.{_≡_};
-ghost use Rattle.rules.specs.Merging.{pfix, punfix};
-ghost use Rattle.rules.specs.State.{state};
+ghost use mathlib.Core.List.{List};
+ghost use Prim.Native.Nat.{ℕ};
+ghost use lib.Dec.{eqb};
+ghost use Rattle.words.specs.Choice.{_and_};
+ghost use Rattle.entries.specs.Entry.{MERGEABLE, LEAF};
+ghost use Rattle.rules.specs.Answers.{Verdict, unless, when};
+ghost use Rattle.rules.specs.Leaves.{leafInUse};
+ghost use Rattle.rules.specs.Merging.{pfix, fixing, punfix, unfixing};
+ghost use Rattle.rules.specs.Refusals.{TYPE, NOT-VALIDATED, FIXED, LEAF-IN-USE};
+ghost use Rattle.rules.specs.State.{state, N};
 ghost use Rattle.checks.specs.Answer.{gave};
+ghost use Rattle.checks.specs.Gate.{past};
 use crate::scan;
 use checks::answer::Answer;
 use checks::answer::Refusal;
 use checks::begin;
 use checks::gate::Gate;
+use checks::gate::go_on;
 use checks::gates;
 use checks::leaves;
 use entries::entry::Decoded;
@@ -30,18 +40,37 @@ pub fn pfix(table: &mut [u64], memory: &mut [u64], caller: u64, hpa: u64, leaf: 
     let Decoded::Good(old) = table::read(table, frame) else {
         return Answer::Refused(Refusal::BadEntry);
     };
-    let leaf_frame = frame_of(leaf);
-    let Decoded::Good(leaf_entry) = table::read(table, leaf_frame) else {
+    let Decoded::Good(leaf_entry) = table::read(table, frame_of(leaf)) else {
         return Answer::Refused(Refusal::BadEntry);
     };
-    let met = gates::pfix(old, leaf_entry);
+    let met = may_fix(table, old, leaf_entry, leaf);
     if let Gate::Shut(refusal) = met {
         return Answer::Refused(refusal);
     }
-    let used = scan::leaf_in_use(table, leaf);
-    if used {
-        return Answer::Refused(Refusal::LeafInUse);
+    fix(table, memory, frame, old, leaf);
+    Answer::Done
+}
+
+// PFIX's 6, 10, 9 and 15. The table is looked through only where all else has passed.
+fn may_fix(table: &[u64], one: Entry, two: Entry, leaf: u64) -> Gate
+    ensures { λ g. ⌜ ((memory : List ℕ) (v : Verdict) → past g v ≡ unless (eqb (one .kind) MERGEABLE and eqb (two .kind) LEAF) TYPE (when (one .fixed) FIXED (unless (one .validated) NOT-VALIDATED (when (leafInUse (state (now (table .entry)) memory) leaf (N (state (now (table .entry)) memory))) LEAF-IN-USE v)))) ⌝ }
+{
+    let met = gates::pfix(one, two);
+    if let Gate::Shut(refusal) = met {
+        return Gate::Shut(refusal);
     }
+    go_on(
+        !scan::leaf_in_use(table, leaf),
+        Refusal::LeafInUse,
+        Gate::Open,
+    )
+}
+
+// What an accepted PFIX does.
+fn fix(table: &mut [u64], memory: &mut [u64], frame: usize, old: Entry, leaf: u64)
+    ensures { λ _. ⌜ state (now (table .exit)) (now (memory .exit)) ≡ fixing (state (now (table .entry)) (now (memory .entry))) frame old leaf ⌝ }
+{
+    let leaf_frame = frame_of(leaf);
     frame::zero(memory, leaf_frame);
     frame::put_word(
         memory,
@@ -50,7 +79,6 @@ pub fn pfix(table: &mut [u64], memory: &mut [u64], caller: u64, hpa: u64, leaf: 
         present_at(old.address),
     );
     table::put(table, frame, old.to_fixed(leaf));
-    Answer::Done
 }
 
 // The page at `hpa` is its owner's again, at the address that the leaf has for it, and the leaf becomes SHARED.
@@ -75,13 +103,20 @@ pub fn punfix(table: &mut [u64], memory: &mut [u64], caller: u64, hpa: u64) -> A
         LeafWord::Absent => return Answer::Refused(Refusal::NoPlace),
         LeafWord::Present(gpa) => gpa,
     };
-    let leaf = frame_of(old.address);
-    let shared = scan::still_shared(memory, leaf, old.asid);
+    let shared = scan::still_shared(memory, frame_of(old.address), old.asid);
     if shared {
         return Answer::Refused(Refusal::StillShared);
     }
+    unfix(table, memory, frame, old, gpa);
+    Answer::Done
+}
+
+// What an accepted PUNFIX does.
+fn unfix(table: &mut [u64], memory: &mut [u64], frame: usize, old: Entry, gpa: u64)
+    ensures { λ _. ⌜ state (now (table .exit)) (now (memory .exit)) ≡ unfixing (state (now (table .entry)) (now (memory .entry))) frame old gpa ⌝ }
+{
+    let leaf = frame_of(old.address);
     table::put(table, frame, old.to_unfixed(gpa));
     table::put(table, leaf, Entry::zero());
     frame::zero(memory, leaf);
-    Answer::Done
 }

@@ -1,27 +1,17 @@
-use mathlib.Core.Path.{_≡_, refl, sym}
-use mathlib.Core.Bool.{Bool, true, false}
-use mathlib.Core.List.{List}
-use Prim.Native.Nat.{ℕ}
-use Rattle.rules.specs.Assignment.{rmpupdate, assigning}
+use Rattle.rules.specs.Assignment.{rmpupdate}
 use Rattle.rules.specs.Answers.{entered, settle}
-use Rattle.rules.specs.State.{state, entryAt, withEntry, withZeros}
-use Rattle.words.specs.Choice.{pick}
-use Rattle.words.specs.Frame.{zeroFrame}
-use Rattle.entries.specs.Table.{putEntry}
-use Rattle.entries.specs.declared.entry.Entry.{Entry}
+use Rattle.rules.specs.State.{entryAt}
 use Rattle.checks.specs.Gate.{past}
-use Rattle.entries.specs.Entry.{entry}
 use borrow.Author.Needs.{needs}
 use Rattle.assignment.proofs.rmpupdate.Statement.{statement}
 use Rattle.assignment.proofs.rmpupdate.Tie as tie
 use Rattle.assignment.proofs.rmpupdate.Reads as reads
 use Rattle.assignment.proofs.rmpupdate.Lts as lts
+use Rattle.assignment.proofs.assign.Reads as assign-reads
 use Rattle.assignment.proofs.update_answer.Reads as update-answer-reads
-use Rattle.assignment.proofs.zero_unless.Reads as zero-unless-reads
 use Rattle.checks.proofs.begin.rmpupdate.Reads as begin-rmpupdate-reads
 use Rattle.checks.proofs.gates.rmpupdate.Reads as gates-rmpupdate-reads
 use Rattle.entries.proofs.entry.frame_of.Reads as frame-of-reads
-use Rattle.entries.proofs.table.put.Reads as put-reads
 use Rattle.entries.proofs.table.read.Reads as read-reads
 
 rmpupdate-requires : tie.Need-rmpupdate-requires
@@ -84,11 +74,8 @@ returns-3 c = rw (← c .before .before .before .before .before .before .before 
 enum-told-3 : tie.Need-enum-told-3
 enum-told-3 c = search needs
 
-zero-unless-requires : tie.Need-zero-unless-requires
-zero-unless-requires c κs = search needs
-
-put-requires : tie.Need-put-requires
-put-requires c κs = search needs
+assign-requires : tie.Need-assign-requires
+assign-requires c κs = search needs
 
 update-answer-requires : tie.Need-update-answer-requires
 update-answer-requires c κs = search needs
@@ -99,16 +86,9 @@ same-length-7 c = search needs
 same-length-8 : tie.Need-same-length-8
 same-length-8 c = search needs
 
-assigned-by :
-    (stays : Bool) (t m : List ℕ) (frame : ℕ) (e : Entry)
-    → withEntry (pick stays (state t m) (withZeros (state t m) frame)) frame e ≡ state (putEntry t frame e) (pick stays m (zeroFrame m frame))
-unfolding pick withEntry withZeros
-assigned-by true t m frame e = refl
-assigned-by false t m frame e = refl
-
 returns-4 : tie.Need-returns-4
-unfolding rmpupdate entered entryAt settle past assigning entry
-returns-4 c = rw (← c .before .before .before .before .before .before .before .before .before .before .before .before .before .before .before .before .before .before .before .before .before .rmpupdate .ensures, c .before .before .before .before .before .before .before .before .before .before .before .before .before .before .before .before .before .before .before .enum-told .given .1, ← c .before .before .before .before .before .before .before .before .before .before .before .before .before .before .before .before .before .before .frame-of .ensures, ← c .before .before .before .before .before .before .before .before .before .before .before .before .before .before .before .before .read .ensures, c .before .before .before .before .before .before .before .before .before .before .before .before .before .before .old .given .1, ← c .before .before .before .before .before .before .before .before .before .before .before .before .rmpupdate2 .ensures, c .before .before .before .before .before .before .before .before .before .before .enum-told3 .given .1, c .update-answer .ensures, c .before .before .before .put .ensures, c .before .before .before .before .before .before .before .zero-unless .ensures, assigned-by)
+unfolding rmpupdate entered entryAt settle past
+returns-4 c = rw (← c .before .before .before .before .before .before .before .before .before .before .before .before .before .before .before .before .before .before .before .rmpupdate .ensures, c .before .before .before .before .before .before .before .before .before .before .before .before .before .before .before .before .before .enum-told .given .1, ← c .before .before .before .before .before .before .before .before .before .before .before .before .before .before .before .before .frame-of .ensures, ← c .before .before .before .before .before .before .before .before .before .before .before .before .before .before .read .ensures, c .before .before .before .before .before .before .before .before .before .before .before .before .old .given .1, ← c .before .before .before .before .before .before .before .before .before .before .rmpupdate2 .ensures, c .before .before .before .before .before .before .before .before .enum-told3 .given .1, ← c .before .before .before .before .before .assign .ensures, ← c .update-answer .ensures)
 
 pub rmpupdate-spec : {M : Type 1} → statement M
 rmpupdate-spec =
@@ -133,8 +113,7 @@ rmpupdate-spec =
     same-length-6
     returns-3
     enum-told-3
-    zero-unless-requires
-    put-requires
+    assign-requires
     update-answer-requires
     same-length-7
     same-length-8

@@ -1,6 +1,6 @@
-use Rattle.rules.specs.Merging.{punfix, unfixing}
+use Rattle.rules.specs.Merging.{punfix}
 use Rattle.rules.specs.Answers.{entered, settle, when, unless}
-use Rattle.rules.specs.State.{entryAt, withEntry, withZeros}
+use Rattle.rules.specs.State.{entryAt}
 use Rattle.rules.specs.Leaves.{leafFrame, placed}
 use Rattle.checks.specs.Gate.{past}
 use Rattle.words.specs.Choice.{pick}
@@ -12,13 +12,10 @@ use Rattle.merging.proofs.fix.punfix.Lts as lts
 use Rattle.checks.proofs.begin.punfix.Reads as begin-punfix-reads
 use Rattle.checks.proofs.gates.punfix.Reads as gates-punfix-reads
 use Rattle.checks.proofs.leaves.consulted.Reads as consulted-reads
-use Rattle.entries.proofs.entry.Entry.to_unfixed.Reads as to-unfixed-reads
-use Rattle.entries.proofs.entry.Entry.zero.Reads as entry-Entry-zero-reads
 use Rattle.entries.proofs.entry.frame_of.Reads as frame-of-reads
-use Rattle.entries.proofs.table.put.Reads as put-reads
 use Rattle.entries.proofs.table.read.Reads as read-reads
+use Rattle.merging.proofs.fix.unfix.Reads as unfix-reads
 use Rattle.merging.proofs.scan.still_shared.Reads as still-shared-reads
-use Rattle.words.proofs.frame.zero.Reads as frame-zero-reads
 
 punfix-requires : tie.Need-punfix-requires
 punfix-requires c κs = search needs
@@ -33,7 +30,7 @@ same-length-2 : tie.Need-same-length-2
 same-length-2 c = search needs
 
 returns : tie.Need-returns
-unfolding punfix entered entryAt leafFrame placed settle past unfixing withEntry withZeros when unless pick
+unfolding punfix entered entryAt leafFrame placed settle past when unless pick
 returns c = rw (← c .before .before .before .punfix .ensures, c .before .begun .given .1)
 
 enum-told : tie.Need-enum-told
@@ -58,7 +55,7 @@ same-length-4 : tie.Need-same-length-4
 same-length-4 c = search needs
 
 returns-2 : tie.Need-returns-2
-unfolding punfix entered entryAt leafFrame placed settle past unfixing withEntry withZeros when unless pick
+unfolding punfix entered entryAt leafFrame placed settle past when unless pick
 returns-2 c = rw (← c .before .before .before .before .before .before .before .punfix .ensures, c .before .before .before .before .before .enum-told .given .1, ← c .before .before .before .before .frame-of .ensures, ← c .before .before .read .ensures, c .enum-told2 .given .1)
 
 punfix-requires-2 : tie.Need-punfix-requires-2
@@ -74,7 +71,7 @@ same-length-6 : tie.Need-same-length-6
 same-length-6 c = search needs
 
 returns-3 : tie.Need-returns-3
-unfolding punfix entered entryAt leafFrame placed settle past unfixing withEntry withZeros when unless pick
+unfolding punfix entered entryAt leafFrame placed settle past when unless pick
 returns-3 c = rw (← c .before .before .before .before .before .before .before .before .before .before .before .before .punfix .ensures, c .before .before .before .before .before .before .before .before .before .before .enum-told .given .1, ← c .before .before .before .before .before .before .before .before .before .frame-of .ensures, ← c .before .before .before .before .before .before .before .read .ensures, c .before .before .before .before .before .old .given .1, ← c .before .before .before .punfix2 .ensures, c .before .met .given .1)
 
 enum-told-3 : tie.Need-enum-told-3
@@ -93,7 +90,7 @@ same-length-8 : tie.Need-same-length-8
 same-length-8 c = search needs
 
 returns-4 : tie.Need-returns-4
-unfolding punfix entered entryAt leafFrame placed settle past unfixing withEntry withZeros when unless pick
+unfolding punfix entered entryAt leafFrame placed settle past when unless pick
 returns-4 c = rw (← c .before .before .before .before .before .before .before .before .before .before .before .before .before .before .before .before .punfix .ensures, c .before .before .before .before .before .before .before .before .before .before .before .before .before .before .enum-told .given .1, ← c .before .before .before .before .before .before .before .before .before .before .before .before .before .frame-of .ensures, ← c .before .before .before .before .before .before .before .before .before .before .before .read .ensures, c .before .before .before .before .before .before .before .before .before .old .given .1, ← c .before .before .before .before .before .before .before .punfix2 .ensures, c .before .before .before .before .before .enum-told3 .given .1, ← c .before .before .consulted .ensures, c .enum-told4 .given .1)
 
 enum-told-5 : tie.Need-enum-told-5
@@ -106,7 +103,7 @@ same-length-10 : tie.Need-same-length-10
 same-length-10 c = search needs
 
 returns-5 : tie.Need-returns-5
-unfolding punfix entered entryAt leafFrame placed settle past unfixing withEntry withZeros when unless pick
+unfolding punfix entered entryAt leafFrame placed settle past when unless pick
 returns-5 c = rw (← c .before .before .before .before .before .before .before .before .before .before .before .before .before .before .before .before .punfix .ensures, c .before .before .before .before .before .before .before .before .before .before .before .before .before .before .enum-told .given .1, ← c .before .before .before .before .before .before .before .before .before .before .before .before .before .frame-of .ensures, ← c .before .before .before .before .before .before .before .before .before .before .before .read .ensures, c .before .before .before .before .before .before .before .before .before .old .given .1, ← c .before .before .before .before .before .before .before .punfix2 .ensures, c .before .before .before .before .before .enum-told3 .given .1, ← c .before .before .consulted .ensures, c .enum-told5 .given .1)
 
 enum-known-word : tie.Need-enum-known-word
@@ -125,23 +122,11 @@ same-length-12 : tie.Need-same-length-12
 same-length-12 c = search needs
 
 returns-6 : tie.Need-returns-6
-unfolding punfix entered entryAt leafFrame placed settle past unfixing withEntry withZeros when unless pick
-returns-6 c = rw (← c .before .before .before .before .before .before .before .before .before .before .before .before .before .before .before .before .before .before .before .before .before .punfix .ensures, c .before .before .before .before .before .before .before .before .before .before .before .before .before .before .before .before .before .before .before .enum-told .given .1, ← c .before .before .before .before .before .before .before .before .before .before .before .before .before .before .before .before .before .before .frame-of .ensures, ← c .before .before .before .before .before .before .before .before .before .before .before .before .before .before .before .before .read .ensures, c .before .before .before .before .before .before .before .before .before .before .before .before .before .before .old .given .1, ← c .before .before .before .before .before .before .before .before .before .before .before .before .punfix2 .ensures, c .before .before .before .before .before .before .before .before .before .before .enum-told3 .given .1, ← c .before .before .before .before .before .before .before .consulted .ensures, c .before .before .before .before .before .word .given .1, ← c .before .before .before .frame-of2 .ensures, ← c .before .still-shared .ensures, c .if1 .taken)
+unfolding punfix entered entryAt leafFrame placed settle past when unless pick
+returns-6 c = rw (← c .before .before .before .before .before .before .before .before .before .before .before .before .before .before .before .before .before .before .before .before .before .punfix .ensures, c .before .before .before .before .before .before .before .before .before .before .before .before .before .before .before .before .before .before .before .enum-told .given .1, ← c .before .before .before .before .before .before .before .before .before .before .before .before .before .before .before .before .before .before .frame-of .ensures, ← c .before .before .before .before .before .before .before .before .before .before .before .before .before .before .before .before .read .ensures, c .before .before .before .before .before .before .before .before .before .before .before .before .before .before .old .given .1, ← c .before .before .before .before .before .before .before .before .before .before .before .before .punfix2 .ensures, c .before .before .before .before .before .before .before .before .before .before .enum-told3 .given .1, ← c .before .before .before .before .before .before .before .consulted .ensures, c .before .before .before .before .before .word .given .1, ← c .before .before .frame-of2 .ensures, ← c .before .still-shared .ensures, c .if1 .taken)
 
-to-unfixed-requires : tie.Need-to-unfixed-requires
-to-unfixed-requires c κs = search needs
-
-put-requires : tie.Need-put-requires
-put-requires c κs = search needs
-
-zero-requires : tie.Need-zero-requires
-zero-requires c κs = search needs
-
-put-requires-2 : tie.Need-put-requires-2
-put-requires-2 c κs = search needs
-
-zero-requires-2 : tie.Need-zero-requires-2
-zero-requires-2 c κs = search needs
+unfix-requires : tie.Need-unfix-requires
+unfix-requires c κs = search needs
 
 same-length-13 : tie.Need-same-length-13
 same-length-13 c = search needs
@@ -150,8 +135,8 @@ same-length-14 : tie.Need-same-length-14
 same-length-14 c = search needs
 
 returns-7 : tie.Need-returns-7
-unfolding punfix entered entryAt leafFrame placed settle past unfixing withEntry withZeros when unless pick
-returns-7 c = rw (← c .before .before .before .before .before .before .before .before .before .before .before .before .before .before .before .before .before .before .before .before .before .before .before .before .before .before .before .before .before .before .before .before .before .before .before .punfix .ensures, c .before .before .before .before .before .before .before .before .before .before .before .before .before .before .before .before .before .before .before .before .before .before .before .before .before .before .before .before .before .before .before .before .before .enum-told .given .1, ← c .before .before .before .before .before .before .before .before .before .before .before .before .before .before .before .before .before .before .before .before .before .before .before .before .before .before .before .before .before .before .before .before .frame-of .ensures, ← c .before .before .before .before .before .before .before .before .before .before .before .before .before .before .before .before .before .before .before .before .before .before .before .before .before .before .before .before .before .before .read .ensures, c .before .before .before .before .before .before .before .before .before .before .before .before .before .before .before .before .before .before .before .before .before .before .before .before .before .before .before .before .old .given .1, ← c .before .before .before .before .before .before .before .before .before .before .before .before .before .before .before .before .before .before .before .before .before .before .before .before .before .before .punfix2 .ensures, c .before .before .before .before .before .before .before .before .before .before .before .before .before .before .before .before .before .before .before .before .before .before .before .before .enum-told3 .given .1, ← c .before .before .before .before .before .before .before .before .before .before .before .before .before .before .before .before .before .before .before .before .before .consulted .ensures, c .before .before .before .before .before .before .before .before .before .before .before .before .before .before .before .before .before .before .before .word .given .1, ← c .before .before .before .before .before .before .before .before .before .before .before .before .before .before .before .before .before .frame-of2 .ensures, ← c .before .before .before .before .before .before .before .before .before .before .before .before .before .before .before .still-shared .ensures, c .before .before .before .before .before .before .before .before .before .before .before .before .before .before .if1 .left, ← c .before .before .before .before .before .before .before .before .before .before .before .before .to-unfixed .ensures, ← c .before .before .before .before .before .before .before .before .before .before .before .put .ensures, ← c .before .before .before .before .before .before .before .zero .ensures, ← c .before .before .before .before .before .before .put2 .ensures, ← c .before .before .zero2 .ensures)
+unfolding punfix entered entryAt leafFrame placed settle past when unless pick
+returns-7 c = rw (← c .before .before .before .before .before .before .before .before .before .before .before .before .before .before .before .before .before .before .before .before .before .before .before .before .before .before .before .before .punfix .ensures, c .before .before .before .before .before .before .before .before .before .before .before .before .before .before .before .before .before .before .before .before .before .before .before .before .before .before .enum-told .given .1, ← c .before .before .before .before .before .before .before .before .before .before .before .before .before .before .before .before .before .before .before .before .before .before .before .before .before .frame-of .ensures, ← c .before .before .before .before .before .before .before .before .before .before .before .before .before .before .before .before .before .before .before .before .before .before .before .read .ensures, c .before .before .before .before .before .before .before .before .before .before .before .before .before .before .before .before .before .before .before .before .before .old .given .1, ← c .before .before .before .before .before .before .before .before .before .before .before .before .before .before .before .before .before .before .before .punfix2 .ensures, c .before .before .before .before .before .before .before .before .before .before .before .before .before .before .before .before .before .enum-told3 .given .1, ← c .before .before .before .before .before .before .before .before .before .before .before .before .before .before .consulted .ensures, c .before .before .before .before .before .before .before .before .before .before .before .before .word .given .1, ← c .before .before .before .before .before .before .before .before .before .frame-of2 .ensures, ← c .before .before .before .before .before .before .before .before .still-shared .ensures, c .before .before .before .before .before .before .before .if1 .left, ← c .before .before .before .before .unfix .ensures)
 
 pub punfix-spec : {M : Type 1} → statement M
 punfix-spec =
@@ -191,11 +176,7 @@ punfix-spec =
     same-length-11
     same-length-12
     returns-6
-    to-unfixed-requires
-    put-requires
-    zero-requires
-    put-requires-2
-    zero-requires-2
+    unfix-requires
     same-length-13
     same-length-14
     returns-7)

@@ -1,8 +1,8 @@
 use Rattle.merging.proofs.MovedLaws.{moved}
 use Rattle.rules.specs.Merging.{punmerge, unmerging}
 use Rattle.rules.specs.Answers.{entered, settle}
-use Rattle.rules.specs.State.{entryAt, withEntry, withWord, withCopy}
-use Rattle.rules.specs.Leaves.{leafFrame, placed}
+use Rattle.rules.specs.State.{entryAt}
+use Rattle.rules.specs.Leaves.{placed}
 use Rattle.checks.specs.Gate.{past}
 use borrow.Author.Needs.{needs}
 use Rattle.merging.proofs.merge.punmerge.Statement.{statement}
@@ -12,12 +12,9 @@ use Rattle.merging.proofs.merge.punmerge.Lts as lts
 use Rattle.checks.proofs.begin.punmerge.Reads as begin-punmerge-reads
 use Rattle.checks.proofs.gates.punmerge.Reads as gates-punmerge-reads
 use Rattle.checks.proofs.leaves.consulted.Reads as consulted-reads
-use Rattle.entries.proofs.entry.Entry.to_moved.Reads as to-moved-reads
 use Rattle.entries.proofs.entry.frame_of.Reads as frame-of-reads
-use Rattle.entries.proofs.table.put.Reads as put-reads
 use Rattle.entries.proofs.table.read.Reads as read-reads
-use Rattle.words.proofs.frame.copy.Reads as copy-reads
-use Rattle.words.proofs.frame.put_word.Reads as put-word-reads
+use Rattle.merging.proofs.merge.unmerge.Reads as unmerge-reads
 
 punmerge-requires : tie.Need-punmerge-requires
 punmerge-requires c κs = search needs
@@ -32,7 +29,7 @@ same-length-2 : tie.Need-same-length-2
 same-length-2 c = search needs
 
 returns : tie.Need-returns
-unfolding punmerge entered entryAt leafFrame placed settle past unmerging withEntry withWord withCopy
+unfolding punmerge entered entryAt placed settle past unmerging
 returns c = rw (← c .before .before .before .punmerge .ensures, c .before .begun .given .1)
 
 enum-told : tie.Need-enum-told
@@ -57,7 +54,7 @@ same-length-4 : tie.Need-same-length-4
 same-length-4 c = search needs
 
 returns-2 : tie.Need-returns-2
-unfolding punmerge entered entryAt leafFrame placed settle past unmerging withEntry withWord withCopy
+unfolding punmerge entered entryAt placed settle past unmerging
 returns-2 c = rw (← c .before .before .before .before .before .before .before .punmerge .ensures, c .before .before .before .before .before .enum-told .given .1, ← c .before .before .before .before .frame-of .ensures, ← c .before .before .read .ensures, c .enum-told2 .given .1)
 
 frame-of-requires-2 : tie.Need-frame-of-requires-2
@@ -79,7 +76,7 @@ same-length-6 : tie.Need-same-length-6
 same-length-6 c = search needs
 
 returns-3 : tie.Need-returns-3
-unfolding punmerge entered entryAt leafFrame placed settle past unmerging withEntry withWord withCopy
+unfolding punmerge entered entryAt placed settle past unmerging
 returns-3 c = rw (← c .before .before .before .before .before .before .before .before .before .before .before .before .before .punmerge .ensures, c .before .before .before .before .before .before .before .before .before .before .before .enum-told .given .1, ← c .before .before .before .before .before .before .before .before .before .before .frame-of .ensures, ← c .before .before .before .before .before .before .before .before .read .ensures, c .before .before .before .before .before .before .one .given .1, ← c .before .before .before .before .frame-of2 .ensures, ← c .before .before .read2 .ensures, c .enum-told3 .given .1)
 
 punmerge-requires-2 : tie.Need-punmerge-requires-2
@@ -95,7 +92,7 @@ same-length-8 : tie.Need-same-length-8
 same-length-8 c = search needs
 
 returns-4 : tie.Need-returns-4
-unfolding punmerge entered entryAt leafFrame placed settle past unmerging withEntry withWord withCopy
+unfolding punmerge entered entryAt placed settle past unmerging
 returns-4 c = rw (← c .before .before .before .before .before .before .before .before .before .before .before .before .before .before .before .before .before .before .punmerge .ensures, c .before .before .before .before .before .before .before .before .before .before .before .before .before .before .before .before .enum-told .given .1, ← c .before .before .before .before .before .before .before .before .before .before .before .before .before .before .before .frame-of .ensures, ← c .before .before .before .before .before .before .before .before .before .before .before .before .before .read .ensures, c .before .before .before .before .before .before .before .before .before .before .before .one .given .1, ← c .before .before .before .before .before .before .before .before .before .frame-of2 .ensures, ← c .before .before .before .before .before .before .before .read2 .ensures, c .before .before .before .before .before .two .given .1, ← c .before .before .before .punmerge2 .ensures, c .before .met .given .1)
 
 enum-told-4 : tie.Need-enum-told-4
@@ -114,7 +111,7 @@ same-length-10 : tie.Need-same-length-10
 same-length-10 c = search needs
 
 returns-5 : tie.Need-returns-5
-unfolding punmerge entered entryAt leafFrame placed settle past unmerging withEntry withWord withCopy
+unfolding punmerge entered entryAt placed settle past unmerging
 returns-5 c = rw (← c .before .before .before .before .before .before .before .before .before .before .before .before .before .before .before .before .before .before .before .before .before .before .punmerge .ensures, c .before .before .before .before .before .before .before .before .before .before .before .before .before .before .before .before .before .before .before .before .enum-told .given .1, ← c .before .before .before .before .before .before .before .before .before .before .before .before .before .before .before .before .before .before .before .frame-of .ensures, ← c .before .before .before .before .before .before .before .before .before .before .before .before .before .before .before .before .before .read .ensures, c .before .before .before .before .before .before .before .before .before .before .before .before .before .before .before .one .given .1, ← c .before .before .before .before .before .before .before .before .before .before .before .before .before .frame-of2 .ensures, ← c .before .before .before .before .before .before .before .before .before .before .before .read2 .ensures, c .before .before .before .before .before .before .before .before .before .two .given .1, ← c .before .before .before .before .before .before .before .punmerge2 .ensures, c .before .before .before .before .before .enum-told4 .given .1, ← c .before .before .consulted .ensures, c .enum-told5 .given .1)
 
 enum-told-6 : tie.Need-enum-told-6
@@ -127,26 +124,14 @@ same-length-12 : tie.Need-same-length-12
 same-length-12 c = search needs
 
 returns-6 : tie.Need-returns-6
-unfolding punmerge entered entryAt leafFrame placed settle past unmerging withEntry withWord withCopy
+unfolding punmerge entered entryAt placed settle past unmerging
 returns-6 c = rw (← c .before .before .before .before .before .before .before .before .before .before .before .before .before .before .before .before .before .before .before .before .before .before .punmerge .ensures, c .before .before .before .before .before .before .before .before .before .before .before .before .before .before .before .before .before .before .before .before .enum-told .given .1, ← c .before .before .before .before .before .before .before .before .before .before .before .before .before .before .before .before .before .before .before .frame-of .ensures, ← c .before .before .before .before .before .before .before .before .before .before .before .before .before .before .before .before .before .read .ensures, c .before .before .before .before .before .before .before .before .before .before .before .before .before .before .before .one .given .1, ← c .before .before .before .before .before .before .before .before .before .before .before .before .before .frame-of2 .ensures, ← c .before .before .before .before .before .before .before .before .before .before .before .read2 .ensures, c .before .before .before .before .before .before .before .before .before .two .given .1, ← c .before .before .before .before .before .before .before .punmerge2 .ensures, c .before .before .before .before .before .enum-told4 .given .1, ← c .before .before .consulted .ensures, c .enum-told6 .given .1)
 
 enum-known-word : tie.Need-enum-known-word
 enum-known-word c = search needs
 
-copy-requires : tie.Need-copy-requires
-copy-requires c κs = search needs
-
-to-moved-requires : tie.Need-to-moved-requires
-to-moved-requires c κs = search needs
-
-put-requires : tie.Need-put-requires
-put-requires c κs = search needs
-
-frame-of-requires-3 : tie.Need-frame-of-requires-3
-frame-of-requires-3 c κs = search needs
-
-put-word-requires : tie.Need-put-word-requires
-put-word-requires c κs = search needs
+unmerge-requires : tie.Need-unmerge-requires
+unmerge-requires c κs = search needs
 
 same-length-13 : tie.Need-same-length-13
 same-length-13 c = search needs
@@ -155,8 +140,8 @@ same-length-14 : tie.Need-same-length-14
 same-length-14 c = search needs
 
 returns-7 : tie.Need-returns-7
-unfolding punmerge entered entryAt leafFrame placed settle past unmerging withEntry withWord withCopy
-returns-7 c = rw (← c .before .before .before .before .before .before .before .before .before .before .before .before .before .before .before .before .before .before .before .before .before .before .before .before .before .before .before .before .before .before .before .before .before .before .before .before .before .punmerge .ensures, c .before .before .before .before .before .before .before .before .before .before .before .before .before .before .before .before .before .before .before .before .before .before .before .before .before .before .before .before .before .before .before .before .before .before .before .enum-told .given .1, ← c .before .before .before .before .before .before .before .before .before .before .before .before .before .before .before .before .before .before .before .before .before .before .before .before .before .before .before .before .before .before .before .before .before .before .frame-of .ensures, ← c .before .before .before .before .before .before .before .before .before .before .before .before .before .before .before .before .before .before .before .before .before .before .before .before .before .before .before .before .before .before .before .before .read .ensures, c .before .before .before .before .before .before .before .before .before .before .before .before .before .before .before .before .before .before .before .before .before .before .before .before .before .before .before .before .before .before .one .given .1, ← c .before .before .before .before .before .before .before .before .before .before .before .before .before .before .before .before .before .before .before .before .before .before .before .before .before .before .before .before .frame-of2 .ensures, ← c .before .before .before .before .before .before .before .before .before .before .before .before .before .before .before .before .before .before .before .before .before .before .before .before .before .before .read2 .ensures, c .before .before .before .before .before .before .before .before .before .before .before .before .before .before .before .before .before .before .before .before .before .before .before .before .two .given .1, ← c .before .before .before .before .before .before .before .before .before .before .before .before .before .before .before .before .before .before .before .before .before .before .punmerge2 .ensures, c .before .before .before .before .before .before .before .before .before .before .before .before .before .before .before .before .before .before .before .before .enum-told4 .given .1, ← c .before .before .before .before .before .before .before .before .before .before .before .before .before .before .before .before .before .consulted .ensures, c .before .before .before .before .before .before .before .before .before .before .before .before .before .before .before .word .given .1, ← moved _ _ _ _ _ _ (c .before .before .before .before .before .before .before .before .before .before .before .before .before .before .before .before .before .before .before .before .before .before .before .before .before .before .before .before .before .before .before .before .read .ensures) (c .before .before .before .before .before .before .before .before .before .before .before .before .before .before .before .before .before .before .before .before .before .before .before .before .before .before .before .before .before .before .one .given .1) (c .before .before .before .before .before .before .before .before .before .before .before .before .before .before .before .before .before .before .before .before .before .before .punmerge2 .ensures) (c .before .before .before .before .before .before .before .before .before .before .before .before .before .before .before .before .before .before .before .before .enum-told4 .given .1), ← c .before .before .before .before .before .before .before .before .before .before .before .before .copy .ensures, ← c .before .before .before .before .before .before .before .before .to-moved .ensures, ← c .before .before .before .before .before .before .before .put .ensures, ← c .before .before .before .frame-of3 .ensures, ← c .before .before .put-word .ensures)
+unfolding punmerge entered entryAt placed settle past unmerging
+returns-7 c = rw (← c .before .before .before .before .before .before .before .before .before .before .before .before .before .before .before .before .before .before .before .before .before .before .before .before .before .before .before .before .before .before .punmerge .ensures, c .before .before .before .before .before .before .before .before .before .before .before .before .before .before .before .before .before .before .before .before .before .before .before .before .before .before .before .before .enum-told .given .1, ← c .before .before .before .before .before .before .before .before .before .before .before .before .before .before .before .before .before .before .before .before .before .before .before .before .before .before .before .frame-of .ensures, ← c .before .before .before .before .before .before .before .before .before .before .before .before .before .before .before .before .before .before .before .before .before .before .before .before .before .read .ensures, c .before .before .before .before .before .before .before .before .before .before .before .before .before .before .before .before .before .before .before .before .before .before .before .one .given .1, ← c .before .before .before .before .before .before .before .before .before .before .before .before .before .before .before .before .before .before .before .before .before .frame-of2 .ensures, ← c .before .before .before .before .before .before .before .before .before .before .before .before .before .before .before .before .before .before .before .read2 .ensures, c .before .before .before .before .before .before .before .before .before .before .before .before .before .before .before .before .before .two .given .1, ← c .before .before .before .before .before .before .before .before .before .before .before .before .before .before .before .punmerge2 .ensures, c .before .before .before .before .before .before .before .before .before .before .before .before .before .enum-told4 .given .1, ← c .before .before .before .before .before .before .before .before .before .before .consulted .ensures, c .before .before .before .before .before .before .before .before .word .given .1, ← moved _ _ _ _ _ _ (c .before .before .before .before .before .before .before .before .before .before .before .before .before .before .before .before .before .before .before .before .before .before .before .before .before .read .ensures) (c .before .before .before .before .before .before .before .before .before .before .before .before .before .before .before .before .before .before .before .before .before .before .before .one .given .1) (c .before .before .before .before .before .before .before .before .before .before .before .before .before .before .before .punmerge2 .ensures) (c .before .before .before .before .before .before .before .before .before .before .before .before .before .enum-told4 .given .1), c .before .before .before .before .unmerge .ensures)
 
 pub punmerge-spec : {M : Type 1} → statement M
 punmerge-spec =
@@ -198,11 +183,7 @@ punmerge-spec =
     same-length-12
     returns-6
     enum-known-word
-    copy-requires
-    to-moved-requires
-    put-requires
-    frame-of-requires-3
-    put-word-requires
+    unmerge-requires
     same-length-13
     same-length-14
     returns-7)
