@@ -68,7 +68,8 @@ fn counted(places: u64, here: Holding) -> Tally
 }
 
 fn count_places(table: &[u64], memory: &[u64], guest: u64) -> Tally
-    ensures { λ r. ⌜ tallied r ≡ tally (state (now (table .entry)) (now (memory .entry))) guest (covered (now (table .entry))) ⌝ }
+    ensures { λ r. ⌜ tallied r
+        ≡ tally (state (now (table .entry)) (now (memory .entry))) guest (covered (now (table .entry))) ⌝ }
 {
     let n = table::covered(table);
     let mut places: u64 = 0;
@@ -86,7 +87,8 @@ fn count_places(table: &[u64], memory: &[u64], guest: u64) -> Tally
 
 // How many places the guest `asid` has.
 pub fn census(table: &[u64], memory: &[u64], asid: u64) -> Answer
-    ensures { λ r. ⌜ gave r (now (table .entry)) (now (memory .entry)) ≡ census (state (now (table .entry)) (now (memory .entry))) asid ⌝ }
+    ensures { λ r. ⌜ gave r (now (table .entry)) (now (memory .entry))
+        ≡ census (state (now (table .entry)) (now (memory .entry))) asid ⌝ }
 {
     let begun = begin::census(table, memory, asid);
     if let Gate::Shut(refusal) = begun {

@@ -19,7 +19,8 @@ use entries::table;
 
 // Of a fixed page: the caller's word in its leaf decides.
 fn fixed(table: &[u64], memory: &[u64], writes: bool, caller: u64, gpa: u64, page: Entry) -> Gate
-    ensures { λ g. ⌜ ((v : Verdict) → past g v ≡ fixedAccess (state (now (table .entry)) (now (memory .entry))) writes caller gpa page v) ⌝ }
+    ensures { λ g. ⌜ ((v : Verdict) → past g v
+        ≡ fixedAccess (state (now (table .entry)) (now (memory .entry))) writes caller gpa page v) ⌝ }
 {
     let may = gates::fixed_access(writes);
     if let Gate::Shut(refusal) = may {
@@ -43,7 +44,8 @@ fn covered(
     hpa: u64,
     gtype: u64,
 ) -> Gate
-    ensures { λ g. ⌜ ((v : Verdict) → past g v ≡ coveredAccess (state (now (table .entry)) (now (memory .entry))) writes caller gpa hpa gtype v) ⌝ }
+    ensures { λ g. ⌜ ((v : Verdict) → past g v
+        ≡ coveredAccess (state (now (table .entry)) (now (memory .entry))) writes caller gpa hpa gtype v) ⌝ }
 {
     let Decoded::Good(page) = table::read(table, frame_of(hpa)) else {
         return Gate::Shut(Refusal::BadEntry);
@@ -75,7 +77,8 @@ pub fn access(
     ntype: u64,
     index: u64,
 ) -> Gate
-    ensures { λ g. ⌜ ((v : Verdict) → past g v ≡ access (state (now (table .entry)) (now (memory .entry))) writes caller gpa hpa gtype ntype index v) ⌝ }
+    ensures { λ g. ⌜ ((v : Verdict) → past g v
+        ≡ access (state (now (table .entry)) (now (memory .entry))) writes caller gpa hpa gtype ntype index v) ⌝ }
 {
     let begun = begin::access(table, memory, caller, gpa, hpa, gtype, ntype, index);
     if let Gate::Shut(refusal) = begun {

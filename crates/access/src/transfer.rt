@@ -20,7 +20,8 @@ pub fn read(
     ntype: u64,
     index: u64,
 ) -> Answer
-    ensures { λ r. ⌜ gave r (now (table .entry)) (now (memory .entry)) ≡ read (state (now (table .entry)) (now (memory .entry))) caller gpa hpa gtype ntype index ⌝ }
+    ensures { λ r. ⌜ gave r (now (table .entry)) (now (memory .entry))
+        ≡ read (state (now (table .entry)) (now (memory .entry))) caller gpa hpa gtype ntype index ⌝ }
 {
     let checked = check::access(table, memory, false, caller, gpa, hpa, gtype, ntype, index);
     if let Gate::Shut(refusal) = checked {
@@ -41,7 +42,8 @@ pub fn write(
     index: u64,
     value: u64,
 ) -> Answer
-    ensures { λ r. ⌜ gave r (now (table .entry)) (now (memory .exit)) ≡ write (state (now (table .entry)) (now (memory .entry))) caller gpa hpa gtype ntype index value ⌝ }
+    ensures { λ r. ⌜ gave r (now (table .entry)) (now (memory .exit))
+        ≡ write (state (now (table .entry)) (now (memory .entry))) caller gpa hpa gtype ntype index value ⌝ }
 {
     let checked = check::access(table, memory, true, caller, gpa, hpa, gtype, ntype, index);
     if let Gate::Shut(refusal) = checked {

@@ -26,7 +26,8 @@ pub fn rmpupdate(
     asid: u64,
     kind: u64,
 ) -> Answer
-    ensures { λ r. ⌜ gave r (now (table .exit)) (now (memory .exit)) ≡ rmpupdate (state (now (table .entry)) (now (memory .entry))) caller hpa gpa asid kind ⌝ }
+    ensures { λ r. ⌜ gave r (now (table .exit)) (now (memory .exit))
+        ≡ rmpupdate (state (now (table .entry)) (now (memory .entry))) caller hpa gpa asid kind ⌝ }
 {
     let begun = begin::rmpupdate(table, memory, caller, hpa, gpa, asid, kind);
     if let Gate::Shut(refusal) = begun {
@@ -54,7 +55,8 @@ fn assign(
     asid: u64,
     kind: u64,
 )
-    ensures { λ _. ⌜ state (now (table .exit)) (now (memory .exit)) ≡ assigning (state (now (table .entry)) (now (memory .entry))) frame old gpa asid kind ⌝ }
+    ensures { λ _. ⌜ state (now (table .exit)) (now (memory .exit))
+        ≡ assigning (state (now (table .entry)) (now (memory .entry))) frame old gpa asid kind ⌝ }
 {
     zero_unless(memory, frame, asid == old.asid);
     let new = Entry {
@@ -98,7 +100,8 @@ pub fn pvalidate(
     hpa: u64,
     kind: u64,
 ) -> Answer
-    ensures { λ r. ⌜ gave r (now (table .exit)) (now (memory .entry)) ≡ pvalidate (state (now (table .entry)) (now (memory .entry))) caller gpa hpa kind ⌝ }
+    ensures { λ r. ⌜ gave r (now (table .exit)) (now (memory .entry))
+        ≡ pvalidate (state (now (table .entry)) (now (memory .entry))) caller gpa hpa kind ⌝ }
 {
     let begun = begin::pvalidate(table, memory, caller, gpa, hpa, kind);
     if let Gate::Shut(refusal) = begun {

@@ -42,7 +42,8 @@ pub fn covers(table: &[u64], hpa: u64) -> bool
 }
 
 fn begin(table: &[u64], memory: &[u64], arguments: bool, party: bool, inside: bool) -> Gate
-    ensures { λ g. ⌜ ((v : Verdict) → past g v ≡ begins (state (now (table .entry)) (now (memory .entry))) arguments party inside v) ⌝ }
+    ensures { λ g. ⌜ ((v : Verdict) → past g v
+        ≡ begins (state (now (table .entry)) (now (memory .entry))) arguments party inside v) ⌝ }
 {
     let framed = go_on(inside, Refusal::Outside, Gate::Open);
     let called = go_on(party, Refusal::Caller, framed);
@@ -59,7 +60,10 @@ pub fn rmpupdate(
     asid: u64,
     kind: u64,
 ) -> Gate
-    ensures { λ g. ⌜ ((v : Verdict) → past g v ≡ begins (state (now (table .entry)) (now (memory .entry))) (updateArguments caller hpa gpa asid kind) (isHost caller) (covers (state (now (table .entry)) (now (memory .entry))) hpa) v) ⌝ }
+    ensures { λ g. ⌜ ((v : Verdict) → past g v
+        ≡ begins (state (now (table .entry)) (now (memory .entry)))
+        (updateArguments caller hpa gpa asid kind) (isHost caller)
+        (covers (state (now (table .entry)) (now (memory .entry))) hpa) v) ⌝ }
 {
     let given = arguments::update(caller, hpa, gpa, asid, kind);
     let party = arguments::is_host(caller);
@@ -67,7 +71,10 @@ pub fn rmpupdate(
 }
 
 pub fn pvalidate(table: &[u64], memory: &[u64], caller: u64, gpa: u64, hpa: u64, kind: u64) -> Gate
-    ensures { λ g. ⌜ ((v : Verdict) → past g v ≡ begins (state (now (table .entry)) (now (memory .entry))) (validateArguments caller gpa hpa kind) (not (isHost caller)) (covers (state (now (table .entry)) (now (memory .entry))) hpa) v) ⌝ }
+    ensures { λ g. ⌜ ((v : Verdict) → past g v
+        ≡ begins (state (now (table .entry)) (now (memory .entry)))
+        (validateArguments caller gpa hpa kind) (not (isHost caller))
+        (covers (state (now (table .entry)) (now (memory .entry))) hpa) v) ⌝ }
 {
     let given = arguments::validate(caller, gpa, hpa, kind);
     let party = !arguments::is_host(caller);
@@ -76,7 +83,11 @@ pub fn pvalidate(table: &[u64], memory: &[u64], caller: u64, gpa: u64, hpa: u64,
 
 // PFIX and PMERGE.
 pub fn two_frames(table: &[u64], memory: &[u64], caller: u64, hpa1: u64, hpa2: u64) -> Gate
-    ensures { λ g. ⌜ ((v : Verdict) → past g v ≡ begins (state (now (table .entry)) (now (memory .entry))) (twoFrameArguments caller hpa1 hpa2) (isHost caller) (covers (state (now (table .entry)) (now (memory .entry))) hpa1 and covers (state (now (table .entry)) (now (memory .entry))) hpa2) v) ⌝ }
+    ensures { λ g. ⌜ ((v : Verdict) → past g v
+        ≡ begins (state (now (table .entry)) (now (memory .entry)))
+        (twoFrameArguments caller hpa1 hpa2) (isHost caller)
+        (covers (state (now (table .entry)) (now (memory .entry))) hpa1
+        and covers (state (now (table .entry)) (now (memory .entry))) hpa2) v) ⌝ }
 {
     let given = arguments::two_frames(caller, hpa1, hpa2);
     let party = arguments::is_host(caller);
@@ -90,7 +101,11 @@ pub fn two_frames(table: &[u64], memory: &[u64], caller: u64, hpa1: u64, hpa2: u
 }
 
 pub fn punmerge(table: &[u64], memory: &[u64], caller: u64, hpa1: u64, hpa2: u64, asid: u64) -> Gate
-    ensures { λ g. ⌜ ((v : Verdict) → past g v ≡ begins (state (now (table .entry)) (now (memory .entry))) (unmergeArguments caller hpa1 hpa2 asid) (isHost caller) (covers (state (now (table .entry)) (now (memory .entry))) hpa1 and covers (state (now (table .entry)) (now (memory .entry))) hpa2) v) ⌝ }
+    ensures { λ g. ⌜ ((v : Verdict) → past g v
+        ≡ begins (state (now (table .entry)) (now (memory .entry)))
+        (unmergeArguments caller hpa1 hpa2 asid) (isHost caller)
+        (covers (state (now (table .entry)) (now (memory .entry))) hpa1
+        and covers (state (now (table .entry)) (now (memory .entry))) hpa2) v) ⌝ }
 {
     let given = arguments::unmerge(caller, hpa1, hpa2, asid);
     let party = arguments::is_host(caller);
@@ -104,7 +119,10 @@ pub fn punmerge(table: &[u64], memory: &[u64], caller: u64, hpa1: u64, hpa2: u64
 }
 
 pub fn punfix(table: &[u64], memory: &[u64], caller: u64, hpa: u64) -> Gate
-    ensures { λ g. ⌜ ((v : Verdict) → past g v ≡ begins (state (now (table .entry)) (now (memory .entry))) (oneFrameArguments caller hpa) (isHost caller) (covers (state (now (table .entry)) (now (memory .entry))) hpa) v) ⌝ }
+    ensures { λ g. ⌜ ((v : Verdict) → past g v
+        ≡ begins (state (now (table .entry)) (now (memory .entry)))
+        (oneFrameArguments caller hpa) (isHost caller)
+        (covers (state (now (table .entry)) (now (memory .entry))) hpa) v) ⌝ }
 {
     let given = arguments::one_frame(caller, hpa);
     let party = arguments::is_host(caller);
@@ -122,7 +140,10 @@ pub fn access(
     ntype: u64,
     index: u64,
 ) -> Gate
-    ensures { λ g. ⌜ ((v : Verdict) → past g v ≡ begins (state (now (table .entry)) (now (memory .entry))) (accessArguments caller gpa hpa gtype ntype index) (mayAccess caller gtype ntype) (ltb (frameOf hpa) (M (state (now (table .entry)) (now (memory .entry))))) v) ⌝ }
+    ensures { λ g. ⌜ ((v : Verdict) → past g v
+        ≡ begins (state (now (table .entry)) (now (memory .entry)))
+        (accessArguments caller gpa hpa gtype ntype index) (mayAccess caller gtype ntype)
+        (ltb (frameOf hpa) (M (state (now (table .entry)) (now (memory .entry))))) v) ⌝ }
 {
     let given = arguments::access(caller, gpa, hpa, gtype, ntype, index);
     let party = arguments::may_access(caller, gtype, ntype);
@@ -132,7 +153,9 @@ pub fn access(
 
 // CENSUS has no caller and names no frame.
 pub fn census(table: &[u64], memory: &[u64], asid: u64) -> Gate
-    ensures { λ g. ⌜ ((v : Verdict) → past g v ≡ unless (sized (state (now (table .entry)) (now (memory .entry)))) GEOMETRY (unless (isGuest asid) ARGUMENT v)) ⌝ }
+    ensures { λ g. ⌜ ((v : Verdict) → past g v
+        ≡ unless (sized (state (now (table .entry)) (now (memory .entry)))) GEOMETRY
+        (unless (isGuest asid) ARGUMENT v)) ⌝ }
 {
     let argued = go_on(is_guest(asid), Refusal::Argument, Gate::Open);
     go_on(sizes_hold(table, memory), Refusal::Geometry, argued)

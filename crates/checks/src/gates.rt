@@ -29,7 +29,11 @@ pub fn rmpupdate(old: Entry) -> Gate
 
 // PVALIDATE: 6, 7, 10, 8.
 pub fn pvalidate(page: Entry, caller: u64, gpa: u64, kind: u64) -> Gate
-    ensures { λ g. ⌜ ((v : Verdict) → past g v ≡ unless (eqb (page .kind) kind) TYPE (unless (eqb (page .asid) caller) OWNER (when (page .fixed) FIXED (unless (eqb (page .address) gpa) ADDRESS v)))) ⌝ }
+    ensures { λ g. ⌜ ((v : Verdict) → past g v
+        ≡ unless (eqb (page .kind) kind) TYPE
+        (unless (eqb (page .asid) caller) OWNER
+        (when (page .fixed) FIXED
+        (unless (eqb (page .address) gpa) ADDRESS v)))) ⌝ }
 {
     let row = needs(needs::PVALIDATE);
     let need = row.0;
@@ -41,7 +45,10 @@ pub fn pvalidate(page: Entry, caller: u64, gpa: u64, kind: u64) -> Gate
 
 // PFIX: 6 of both, 10, 9.
 pub fn pfix(old: Entry, leaf: Entry) -> Gate
-    ensures { λ g. ⌜ ((v : Verdict) → past g v ≡ unless (eqb (old .kind) MERGEABLE and eqb (leaf .kind) LEAF) TYPE (when (old .fixed) FIXED (unless (old .validated) NOT-VALIDATED v))) ⌝ }
+    ensures { λ g. ⌜ ((v : Verdict) → past g v
+        ≡ unless (eqb (old .kind) MERGEABLE and eqb (leaf .kind) LEAF) TYPE
+        (when (old .fixed) FIXED
+        (unless (old .validated) NOT-VALIDATED v))) ⌝ }
 {
     let row = needs(needs::PFIX);
     let one = row.0;
@@ -61,7 +68,11 @@ pub fn pfix(old: Entry, leaf: Entry) -> Gate
 
 // PMERGE: 6 of both, 11 of the first, 10 and 9 of the second.
 pub fn pmerge(one: Entry, two: Entry) -> Gate
-    ensures { λ g. ⌜ ((v : Verdict) → past g v ≡ unless (eqb (one .kind) MERGEABLE and eqb (two .kind) MERGEABLE) TYPE (unless (one .fixed) NOT-FIXED (when (two .fixed) FIXED (unless (two .validated) NOT-VALIDATED v)))) ⌝ }
+    ensures { λ g. ⌜ ((v : Verdict) → past g v
+        ≡ unless (eqb (one .kind) MERGEABLE and eqb (two .kind) MERGEABLE) TYPE
+        (unless (one .fixed) NOT-FIXED
+        (when (two .fixed) FIXED
+        (unless (two .validated) NOT-VALIDATED v)))) ⌝ }
 {
     let row = needs(needs::PMERGE);
     let first = row.0;
@@ -82,7 +93,8 @@ pub fn pmerge(one: Entry, two: Entry) -> Gate
 
 // PUNMERGE: 6 of both, 11.
 pub fn punmerge(one: Entry, two: Entry) -> Gate
-    ensures { λ g. ⌜ ((v : Verdict) → past g v ≡ unless (eqb (one .kind) MERGEABLE and eqb (two .kind) SHARED) TYPE (unless (one .fixed) NOT-FIXED v)) ⌝ }
+    ensures { λ g. ⌜ ((v : Verdict) → past g v
+        ≡ unless (eqb (one .kind) MERGEABLE and eqb (two .kind) SHARED) TYPE (unless (one .fixed) NOT-FIXED v)) ⌝ }
 {
     let row = needs(needs::PUNMERGE);
     let first = row.0;
@@ -97,7 +109,8 @@ pub fn punmerge(one: Entry, two: Entry) -> Gate
 
 // PUNFIX: 6, 11.
 pub fn punfix(old: Entry) -> Gate
-    ensures { λ g. ⌜ ((v : Verdict) → past g v ≡ unless (eqb (old .kind) MERGEABLE) TYPE (unless (old .fixed) NOT-FIXED v)) ⌝ }
+    ensures { λ g. ⌜ ((v : Verdict) → past g v
+        ≡ unless (eqb (old .kind) MERGEABLE) TYPE (unless (old .fixed) NOT-FIXED v)) ⌝ }
 {
     let row = needs(needs::PUNFIX);
     let page = row.0;

@@ -30,7 +30,8 @@ use words::frame;
 
 // The page at `hpa` is fixed, with the LEAF frame at `leaf` as its leaf: its owner is the first guest in it.
 pub fn pfix(table: &mut [u64], memory: &mut [u64], caller: u64, hpa: u64, leaf: u64) -> Answer
-    ensures { λ r. ⌜ gave r (now (table .exit)) (now (memory .exit)) ≡ pfix (state (now (table .entry)) (now (memory .entry))) caller hpa leaf ⌝ }
+    ensures { λ r. ⌜ gave r (now (table .exit)) (now (memory .exit))
+        ≡ pfix (state (now (table .entry)) (now (memory .entry))) caller hpa leaf ⌝ }
 {
     let begun = begin::two_frames(table, memory, caller, hpa, leaf);
     if let Gate::Shut(refusal) = begun {
@@ -53,7 +54,11 @@ pub fn pfix(table: &mut [u64], memory: &mut [u64], caller: u64, hpa: u64, leaf: 
 
 // PFIX's 6, 10, 9 and 15. The table is looked through only where all else has passed.
 fn may_fix(table: &[u64], one: Entry, two: Entry, leaf: u64) -> Gate
-    ensures { λ g. ⌜ ((memory : List ℕ) (v : Verdict) → past g v ≡ unless (eqb (one .kind) MERGEABLE and eqb (two .kind) LEAF) TYPE (when (one .fixed) FIXED (unless (one .validated) NOT-VALIDATED (when (leafInUse (state (now (table .entry)) memory) leaf (N (state (now (table .entry)) memory))) LEAF-IN-USE v)))) ⌝ }
+    ensures { λ g. ⌜ ((memory : List ℕ) (v : Verdict) → past g v
+        ≡ unless (eqb (one .kind) MERGEABLE and eqb (two .kind) LEAF) TYPE
+        (when (one .fixed) FIXED
+        (unless (one .validated) NOT-VALIDATED
+        (when (leafInUse (state (now (table .entry)) memory) leaf (N (state (now (table .entry)) memory))) LEAF-IN-USE v)))) ⌝ }
 {
     let met = gates::pfix(one, two);
     if let Gate::Shut(refusal) = met {
@@ -68,7 +73,8 @@ fn may_fix(table: &[u64], one: Entry, two: Entry, leaf: u64) -> Gate
 
 // What an accepted PFIX does.
 fn fix(table: &mut [u64], memory: &mut [u64], frame: usize, old: Entry, leaf: u64)
-    ensures { λ _. ⌜ state (now (table .exit)) (now (memory .exit)) ≡ fixing (state (now (table .entry)) (now (memory .entry))) frame old leaf ⌝ }
+    ensures { λ _. ⌜ state (now (table .exit)) (now (memory .exit))
+        ≡ fixing (state (now (table .entry)) (now (memory .entry))) frame old leaf ⌝ }
 {
     let leaf_frame = frame_of(leaf);
     frame::zero(memory, leaf_frame);
@@ -83,7 +89,8 @@ fn fix(table: &mut [u64], memory: &mut [u64], frame: usize, old: Entry, leaf: u6
 
 // The page at `hpa` is its owner's again, at the address that the leaf has for it, and the leaf becomes SHARED.
 pub fn punfix(table: &mut [u64], memory: &mut [u64], caller: u64, hpa: u64) -> Answer
-    ensures { λ r. ⌜ gave r (now (table .exit)) (now (memory .exit)) ≡ punfix (state (now (table .entry)) (now (memory .entry))) caller hpa ⌝ }
+    ensures { λ r. ⌜ gave r (now (table .exit)) (now (memory .exit))
+        ≡ punfix (state (now (table .entry)) (now (memory .entry))) caller hpa ⌝ }
 {
     let begun = begin::punfix(table, memory, caller, hpa);
     if let Gate::Shut(refusal) = begun {
@@ -113,7 +120,8 @@ pub fn punfix(table: &mut [u64], memory: &mut [u64], caller: u64, hpa: u64) -> A
 
 // What an accepted PUNFIX does.
 fn unfix(table: &mut [u64], memory: &mut [u64], frame: usize, old: Entry, gpa: u64)
-    ensures { λ _. ⌜ state (now (table .exit)) (now (memory .exit)) ≡ unfixing (state (now (table .entry)) (now (memory .entry))) frame old gpa ⌝ }
+    ensures { λ _. ⌜ state (now (table .exit)) (now (memory .exit))
+        ≡ unfixing (state (now (table .entry)) (now (memory .entry))) frame old gpa ⌝ }
 {
     let leaf = frame_of(old.address);
     table::put(table, frame, old.to_unfixed(gpa));

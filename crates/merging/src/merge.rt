@@ -27,7 +27,8 @@ use words::frame;
 
 // The page at `hpa2` moves into the fixed page at `hpa1`, and its frame becomes SHARED.
 pub fn pmerge(table: &mut [u64], memory: &mut [u64], caller: u64, hpa1: u64, hpa2: u64) -> Answer
-    ensures { λ r. ⌜ gave r (now (table .exit)) (now (memory .exit)) ≡ pmerge (state (now (table .entry)) (now (memory .entry))) caller hpa1 hpa2 ⌝ }
+    ensures { λ r. ⌜ gave r (now (table .exit)) (now (memory .exit))
+        ≡ pmerge (state (now (table .entry)) (now (memory .entry))) caller hpa1 hpa2 ⌝ }
 {
     let begun = begin::two_frames(table, memory, caller, hpa1, hpa2);
     if let Gate::Shut(refusal) = begun {
@@ -58,7 +59,13 @@ fn may_merge(
     frame2: usize,
     two: Entry,
 ) -> Gate
-    ensures { λ g. ⌜ ((v : Verdict) → past g v ≡ unless (eqb (one .kind) MERGEABLE and eqb (two .kind) MERGEABLE) TYPE (unless (one .fixed) NOT-FIXED (when (two .fixed) FIXED (unless (two .validated) NOT-VALIDATED (vacant (consulted (state (now (table .entry)) (now (memory .entry))) one (two .asid)) (unless (eqb (differingAt (state (now (table .entry)) (now (memory .entry))) frame1 frame2) 0) CONTENTS v)))))) ⌝ }
+    ensures { λ g. ⌜ ((v : Verdict) → past g v
+        ≡ unless (eqb (one .kind) MERGEABLE and eqb (two .kind) MERGEABLE) TYPE
+        (unless (one .fixed) NOT-FIXED
+        (when (two .fixed) FIXED
+        (unless (two .validated) NOT-VALIDATED
+        (vacant (consulted (state (now (table .entry)) (now (memory .entry))) one (two .asid))
+        (unless (eqb (differingAt (state (now (table .entry)) (now (memory .entry))) frame1 frame2) 0) CONTENTS v)))))) ⌝ }
 {
     let met = gates::pmerge(one, two);
     if let Gate::Shut(refusal) = met {
@@ -77,7 +84,8 @@ fn may_merge(
 
 // What an accepted PMERGE does.
 fn merge(table: &mut [u64], memory: &mut [u64], one: Entry, frame2: usize, two: Entry)
-    ensures { λ _. ⌜ state (now (table .exit)) (now (memory .exit)) ≡ merging (state (now (table .entry)) (now (memory .entry))) one frame2 two ⌝ }
+    ensures { λ _. ⌜ state (now (table .exit)) (now (memory .exit))
+        ≡ merging (state (now (table .entry)) (now (memory .entry))) one frame2 two ⌝ }
 {
     let leaf = frame_of(one.address);
     frame::put_word(memory, leaf, two.asid as usize, present_at(two.address));
@@ -94,7 +102,8 @@ pub fn punmerge(
     hpa2: u64,
     asid: u64,
 ) -> Answer
-    ensures { λ r. ⌜ gave r (now (table .exit)) (now (memory .exit)) ≡ punmerge (state (now (table .entry)) (now (memory .entry))) caller hpa1 hpa2 asid ⌝ }
+    ensures { λ r. ⌜ gave r (now (table .exit)) (now (memory .exit))
+        ≡ punmerge (state (now (table .entry)) (now (memory .entry))) caller hpa1 hpa2 asid ⌝ }
 {
     let begun = begin::punmerge(table, memory, caller, hpa1, hpa2, asid);
     if let Gate::Shut(refusal) = begun {
@@ -132,7 +141,10 @@ fn unmerge(
     asid: u64,
     gpa: u64,
 )
-    ensures { λ _. ⌜ state (now (table .exit)) (now (memory .exit)) ≡ withWord (withEntry (withCopy (state (now (table .entry)) (now (memory .entry))) frame1 frame2) frame2 (toMoved one asid gpa)) (leafFrame one) asid 0 ⌝ }
+    ensures { λ _. ⌜ state (now (table .exit)) (now (memory .exit))
+        ≡ withWord
+        (withEntry (withCopy (state (now (table .entry)) (now (memory .entry))) frame1 frame2) frame2 (toMoved one asid gpa))
+        (leafFrame one) asid 0 ⌝ }
 {
     frame::copy(memory, frame1, frame2);
     table::put(table, frame2, one.to_moved(asid, gpa));

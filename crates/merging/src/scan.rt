@@ -20,7 +20,8 @@ fn names_leaf(decoded: Decoded, leaf: u64) -> bool
 
 // 15: whether some well formed FIXED entry names the leaf at this address.
 pub fn leaf_in_use(table: &[u64], leaf: u64) -> bool
-    ensures { λ r. ⌜ ((memory : List ℕ) → r ≡ leafInUse (state (now (table .entry)) memory) leaf (covered (now (table .entry)))) ⌝ }
+    ensures { λ r. ⌜ ((memory : List ℕ) → r
+        ≡ leafInUse (state (now (table .entry)) memory) leaf (covered (now (table .entry)))) ⌝ }
 {
     let n = table::covered(table);
     let mut frame = 0;

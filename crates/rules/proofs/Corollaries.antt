@@ -91,8 +91,8 @@ Returned past guest gpa index told =
     (o : Opened past guest gpa) × (told ≡ word (lastWrite (o .since) guest gpa index (wordAt (o .opening .got) (o .frame) index)))
 
 returned-since :
-    {s : State} {calls : List Call} {past : List Made} {guest gpa : ℕ} (rest : List Made) (read : Made) (index : ℕ)
-    → NoCounterGoesBack s calls → history s calls ≡ past ++ (read ∷ rest) → event read ≡ reads guest gpa index
+    {all past : List Made} {end : State} {guest gpa : ℕ} (rest : List Made) (read : Made) (index : ℕ)
+    → NoCounterGoesBack all end → all ≡ past ++ (read ∷ rest) → event read ≡ reads guest gpa index
     → openings past guest gpa ≤ 1 → Opened past guest gpa → Returned past guest gpa index (read .told)
 returned-since {guest = guest} {gpa = gpa} rest read index claim whole e most o =
     let parts = ap (λ l. l ++ (read ∷ rest)) (o .past-is) ∙ append-assoc (o .earlier) (o .opening ∷ o .since) (read ∷ rest) in

@@ -108,26 +108,26 @@ unfoldable pub lastWrite : List Made → ℕ → ℕ → ℕ → ℕ → ℕ
 lastWrite [] guest gpa index before = before
 lastWrite (m ∷ rest) guest gpa index before = lastWrite rest guest gpa index (written (event m) guest gpa index before)
 
--- the claim, of a list of calls whole
-pub record NoCounterGoesBack (s : State) (calls : List Call) : Type 0 where
+-- the claim, of a list of calls whole: the calls as they were made, and the table and memory after the last
+pub record NoCounterGoesBack (all : List Made) (end : State) : Type 0 where
   -- "for each guest and address, places plus closings are exactly the openings"
-  pub counted :
-      (guest gpa : ℕ) → isGuest guest ≡ true
-      → places (finally s calls) guest gpa + closings (history s calls) guest gpa ≡ openings (history s calls) guest gpa
+  pub counted : (guest gpa : ℕ) → isGuest guest ≡ true → places end guest gpa + closings all guest gpa ≡ openings all guest gpa
   -- a private or mergeable read is accepted only at an address that was opened before it
   pub opened-before :
       (past rest : List Made) (read : Made) (guest gpa index : ℕ)
-      → history s calls ≡ past ++ (read ∷ rest) → event read ≡ reads guest gpa index
+      → all ≡ past ++ (read ∷ rest) → event read ≡ reads guest gpa index
       → 1 ≤ openings past guest gpa
   -- "If the address was opened at most once before it, the read returns the guest's own last accepted such write to that word since the
   -- opening, or, where there is none, the word found at the opening", "as memory held it at that call"
   pub kept :
       (past since rest : List Made) (opening read : Made) (guest gpa frame index : ℕ)
-      → history s calls ≡ past ++ (opening ∷ (since ++ (read ∷ rest)))
+      → all ≡ past ++ (opening ∷ (since ++ (read ∷ rest)))
       → event opening ≡ opens guest gpa frame → event read ≡ reads guest gpa index
       → openings (past ++ (opening ∷ since)) guest gpa ≤ 1
       → read .told ≡ word (lastWrite since guest gpa index (wordAt (opening .got) frame index))
 
 -- demand 3: "for every list of the nine calls of document 01, refused ones among them, from an empty table and any memory"
 abbrev pub Demand3 : Type 0
-Demand3 = (length : ℕ) (memory : List ℕ) (calls : List Call) → NoCounterGoesBack (emptyTable length memory) calls
+Demand3 =
+    (length : ℕ) (memory : List ℕ) (calls : List Call)
+    → NoCounterGoesBack (history (emptyTable length memory) calls) (finally (emptyTable length memory) calls)
