@@ -2,14 +2,18 @@
 ghost use mathlib.Core.Path.{_≡_};
 ghost use Rattle.words.specs.Choice.{pick};
 ghost use Rattle.words.specs.Frame.{zeroFrame};
-ghost use Rattle.rules.specs.Assignment.{rmpupdate, assigning, updateAnswer, pvalidate, validateAnswer};
+ghost use Rattle.entries.specs.Entry.{frameOf};
+ghost use Rattle.rules.specs.Answers.{grant, settle};
+ghost use Rattle.rules.specs.Assignment.{assigning, updateAnswer, rmpupdate, validating, validateAnswer, pvalidate};
 ghost use Rattle.rules.specs.State.{state};
 ghost use Rattle.checks.specs.Answer.{told, gave};
+ghost use Rattle.checks.specs.Passed.{withPage};
 use checks::answer::Answer;
 use checks::answer::Refusal;
 use checks::begin;
 use checks::gate::Gate;
 use checks::gates;
+use checks::passed::Page;
 use entries::entry::Decoded;
 use entries::entry::Entry;
 use entries::entry::frame_of;
@@ -29,23 +33,42 @@ pub fn rmpupdate(
     ensures { λ r. ⌜ gave r (now (table .exit)) (now (memory .exit))
         ≡ rmpupdate (state (now (table .entry)) (now (memory .entry))) caller hpa gpa asid kind ⌝ }
 {
+    match check_update(table, memory, caller, hpa, gpa, asid, kind) {
+        Page::Refused(refusal) => Answer::Refused(refusal),
+        Page::Good(old) => {
+            assign(table, memory, frame_of(hpa), old, gpa, asid, kind);
+            update_answer(old)
+        }
+    }
+}
+
+fn check_update(
+    table: &[u64],
+    memory: &[u64],
+    caller: u64,
+    hpa: u64,
+    gpa: u64,
+    asid: u64,
+    kind: u64,
+) -> Page
+    ensures { λ r. ⌜ rmpupdate (state (now (table .entry)) (now (memory .entry))) caller hpa gpa asid kind
+        ≡ settle (state (now (table .entry)) (now (memory .entry))) (withPage r λ old.
+        grant (updateAnswer old) (assigning (state (now (table .entry)) (now (memory .entry))) (frameOf hpa) old gpa asid kind)) ⌝ }
+{
     let begun = begin::rmpupdate(table, memory, caller, hpa, gpa, asid, kind);
     if let Gate::Shut(refusal) = begun {
-        return Answer::Refused(refusal);
+        return Page::Refused(refusal);
     }
-    let frame = frame_of(hpa);
-    let Decoded::Good(old) = table::read(table, frame) else {
-        return Answer::Refused(Refusal::BadEntry);
+    let Decoded::Good(old) = table::read(table, frame_of(hpa)) else {
+        return Page::Refused(Refusal::BadEntry);
     };
     let met = gates::rmpupdate(old);
     if let Gate::Shut(refusal) = met {
-        return Answer::Refused(refusal);
+        return Page::Refused(refusal);
     }
-    assign(table, memory, frame, old, gpa, asid, kind);
-    update_answer(old)
+    Page::Good(old)
 }
 
-// What an accepted RMPUPDATE does.
 fn assign(
     table: &mut [u64],
     memory: &mut [u64],
@@ -103,20 +126,32 @@ pub fn pvalidate(
     ensures { λ r. ⌜ gave r (now (table .exit)) (now (memory .entry))
         ≡ pvalidate (state (now (table .entry)) (now (memory .entry))) caller gpa hpa kind ⌝ }
 {
+    match check_validate(table, memory, caller, gpa, hpa, kind) {
+        Page::Refused(refusal) => Answer::Refused(refusal),
+        Page::Good(page) => {
+            table::put(table, frame_of(hpa), page.to_validated());
+            validate_answer(page)
+        }
+    }
+}
+
+fn check_validate(table: &[u64], memory: &[u64], caller: u64, gpa: u64, hpa: u64, kind: u64) -> Page
+    ensures { λ r. ⌜ pvalidate (state (now (table .entry)) (now (memory .entry))) caller gpa hpa kind
+        ≡ settle (state (now (table .entry)) (now (memory .entry))) (withPage r λ page.
+        grant (validateAnswer page) (validating (state (now (table .entry)) (now (memory .entry))) (frameOf hpa) page)) ⌝ }
+{
     let begun = begin::pvalidate(table, memory, caller, gpa, hpa, kind);
     if let Gate::Shut(refusal) = begun {
-        return Answer::Refused(refusal);
+        return Page::Refused(refusal);
     }
-    let frame = frame_of(hpa);
-    let Decoded::Good(page) = table::read(table, frame) else {
-        return Answer::Refused(Refusal::BadEntry);
+    let Decoded::Good(page) = table::read(table, frame_of(hpa)) else {
+        return Page::Refused(Refusal::BadEntry);
     };
     let met = gates::pvalidate(page, caller, gpa, kind);
     if let Gate::Shut(refusal) = met {
-        return Answer::Refused(refusal);
+        return Page::Refused(refusal);
     }
-    table::put(table, frame, page.to_validated());
-    validate_answer(page)
+    Page::Good(page)
 }
 
 fn validate_answer(page: Entry) -> Answer

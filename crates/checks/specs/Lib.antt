@@ -3,3 +3,4 @@
 pub mod Answer
 pub mod Gate
 pub mod Needs
+pub mod Passed

@@ -7,3 +7,4 @@ pub mod gate;
 pub mod gates;
 pub mod leaves;
 pub mod needs;
+pub mod passed;

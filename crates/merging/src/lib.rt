@@ -1,5 +1,8 @@
 // PFIX, PMERGE, PUNMERGE and PUNFIX: pages of equal contents that share one frame, each guest at the address that it has in the frame's
 // leaf.
-pub mod fix;
 pub mod merge;
-pub mod scan;
+
+pub use crate::merge::pmerge;
+pub use crate::merge::punmerge;
+pub use fixing::fix::pfix;
+pub use fixing::fix::punfix;

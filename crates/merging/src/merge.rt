@@ -1,22 +1,20 @@
 // PMERGE and PUNMERGE: a guest's page moves into a fixed one of the same contents, and out of it again.
 ghost use mathlib.Core.Path.{_≡_};
-ghost use lib.Dec.{eqb};
-ghost use Rattle.words.specs.Choice.{_and_};
-ghost use Rattle.entries.specs.Entry.{MERGEABLE, toMoved};
-ghost use Rattle.rules.specs.Answers.{Verdict, unless, when};
-ghost use Rattle.rules.specs.Leaves.{leafFrame, consulted, vacant};
-ghost use Rattle.rules.specs.Merging.{pmerge, merging, punmerge};
-ghost use Rattle.rules.specs.Refusals.{TYPE, NOT-VALIDATED, FIXED, NOT-FIXED, CONTENTS};
-ghost use Rattle.rules.specs.State.{state, differingAt, withEntry, withWord, withCopy};
+ghost use Rattle.entries.specs.Entry.{frameOf};
+ghost use Rattle.rules.specs.Answers.{done, grant, settle};
+ghost use Rattle.rules.specs.Merging.{merging, pmerge, punmerge};
+ghost use Rattle.rules.specs.State.{state};
 ghost use Rattle.checks.specs.Answer.{gave};
-ghost use Rattle.checks.specs.Gate.{past};
+ghost use Rattle.checks.specs.Passed.{withPages, withPlace};
+ghost use Rattle.merging.specs.Moved.{moving};
 use checks::answer::Answer;
 use checks::answer::Refusal;
 use checks::begin;
 use checks::gate::Gate;
-use checks::gate::go_on;
 use checks::gates;
 use checks::leaves;
+use checks::passed::Pages;
+use checks::passed::Place;
 use entries::entry::Decoded;
 use entries::entry::Entry;
 use entries::entry::frame_of;
@@ -30,59 +28,48 @@ pub fn pmerge(table: &mut [u64], memory: &mut [u64], caller: u64, hpa1: u64, hpa
     ensures { λ r. ⌜ gave r (now (table .exit)) (now (memory .exit))
         ≡ pmerge (state (now (table .entry)) (now (memory .entry))) caller hpa1 hpa2 ⌝ }
 {
+    match check_merge(table, memory, caller, hpa1, hpa2) {
+        Pages::Refused(refusal) => Answer::Refused(refusal),
+        Pages::Good(one, two) => {
+            merge(table, memory, one, frame_of(hpa2), two);
+            Answer::Done
+        }
+    }
+}
+
+// The frames are compared only where all else has passed.
+fn check_merge(table: &[u64], memory: &[u64], caller: u64, hpa1: u64, hpa2: u64) -> Pages
+    ensures { λ r. ⌜ pmerge (state (now (table .entry)) (now (memory .entry))) caller hpa1 hpa2
+        ≡ settle (state (now (table .entry)) (now (memory .entry))) (withPages r λ one two.
+        grant done (merging (state (now (table .entry)) (now (memory .entry))) one (frameOf hpa2) two)) ⌝ }
+{
     let begun = begin::two_frames(table, memory, caller, hpa1, hpa2);
     if let Gate::Shut(refusal) = begun {
-        return Answer::Refused(refusal);
+        return Pages::Refused(refusal);
     }
     let frame1 = frame_of(hpa1);
     let Decoded::Good(one) = table::read(table, frame1) else {
-        return Answer::Refused(Refusal::BadEntry);
+        return Pages::Refused(Refusal::BadEntry);
     };
     let frame2 = frame_of(hpa2);
     let Decoded::Good(two) = table::read(table, frame2) else {
-        return Answer::Refused(Refusal::BadEntry);
+        return Pages::Refused(Refusal::BadEntry);
     };
-    let met = may_merge(table, memory, frame1, one, frame2, two);
-    if let Gate::Shut(refusal) = met {
-        return Answer::Refused(refusal);
-    }
-    merge(table, memory, one, frame2, two);
-    Answer::Done
-}
-
-// PMERGE's 6, 11, 10, 9, 12, 14 and 16. The frames are compared only where all else has passed.
-fn may_merge(
-    table: &[u64],
-    memory: &[u64],
-    frame1: usize,
-    one: Entry,
-    frame2: usize,
-    two: Entry,
-) -> Gate
-    ensures { λ g. ⌜ ((v : Verdict) → past g v
-        ≡ unless (eqb (one .kind) MERGEABLE and eqb (two .kind) MERGEABLE) TYPE
-        (unless (one .fixed) NOT-FIXED
-        (when (two .fixed) FIXED
-        (unless (two .validated) NOT-VALIDATED
-        (vacant (consulted (state (now (table .entry)) (now (memory .entry))) one (two .asid))
-        (unless (eqb (differingAt (state (now (table .entry)) (now (memory .entry))) frame1 frame2) 0) CONTENTS v)))))) ⌝ }
-{
     let met = gates::pmerge(one, two);
     if let Gate::Shut(refusal) = met {
-        return Gate::Shut(refusal);
+        return Pages::Refused(refusal);
     }
     let free = leaves::vacant(leaves::consulted(table, memory, one, two.asid));
     if let Gate::Shut(refusal) = free {
-        return Gate::Shut(refusal);
+        return Pages::Refused(refusal);
     }
-    go_on(
-        frame::differing(memory, frame1, frame2) == 0,
-        Refusal::Contents,
-        Gate::Open,
-    )
+    let equal = frame::differing(memory, frame1, frame2) == 0;
+    if equal {
+        return Pages::Good(one, two);
+    }
+    Pages::Refused(Refusal::Contents)
 }
 
-// What an accepted PMERGE does.
 fn merge(table: &mut [u64], memory: &mut [u64], one: Entry, frame2: usize, two: Entry)
     ensures { λ _. ⌜ state (now (table .exit)) (now (memory .exit))
         ≡ merging (state (now (table .entry)) (now (memory .entry))) one frame2 two ⌝ }
@@ -105,33 +92,57 @@ pub fn punmerge(
     ensures { λ r. ⌜ gave r (now (table .exit)) (now (memory .exit))
         ≡ punmerge (state (now (table .entry)) (now (memory .entry))) caller hpa1 hpa2 asid ⌝ }
 {
+    match check_unmerge(table, memory, caller, hpa1, hpa2, asid) {
+        Place::Refused(refusal) => Answer::Refused(refusal),
+        Place::Good(one, gpa) => {
+            unmerge(
+                table,
+                memory,
+                frame_of(hpa1),
+                one,
+                frame_of(hpa2),
+                asid,
+                gpa,
+            );
+            Answer::Done
+        }
+    }
+}
+
+fn check_unmerge(
+    table: &[u64],
+    memory: &[u64],
+    caller: u64,
+    hpa1: u64,
+    hpa2: u64,
+    asid: u64,
+) -> Place
+    ensures { λ r. ⌜ punmerge (state (now (table .entry)) (now (memory .entry))) caller hpa1 hpa2 asid
+        ≡ settle (state (now (table .entry)) (now (memory .entry))) (withPlace r λ one gpa.
+        grant done (moving (state (now (table .entry)) (now (memory .entry))) (frameOf hpa1) one (frameOf hpa2) asid gpa)) ⌝ }
+{
     let begun = begin::punmerge(table, memory, caller, hpa1, hpa2, asid);
     if let Gate::Shut(refusal) = begun {
-        return Answer::Refused(refusal);
+        return Place::Refused(refusal);
     }
-    let frame1 = frame_of(hpa1);
-    let Decoded::Good(one) = table::read(table, frame1) else {
-        return Answer::Refused(Refusal::BadEntry);
+    let Decoded::Good(one) = table::read(table, frame_of(hpa1)) else {
+        return Place::Refused(Refusal::BadEntry);
     };
-    let frame2 = frame_of(hpa2);
-    let Decoded::Good(two) = table::read(table, frame2) else {
-        return Answer::Refused(Refusal::BadEntry);
+    let Decoded::Good(two) = table::read(table, frame_of(hpa2)) else {
+        return Place::Refused(Refusal::BadEntry);
     };
     let met = gates::punmerge(one, two);
     if let Gate::Shut(refusal) = met {
-        return Answer::Refused(refusal);
+        return Place::Refused(refusal);
     }
-    let word = leaves::consulted(table, memory, one, asid);
-    let gpa = match word {
-        LeafWord::Misshapen => return Answer::Refused(Refusal::BrokenLeaf),
-        LeafWord::Absent => return Answer::Refused(Refusal::NoPlace),
-        LeafWord::Present(gpa) => gpa,
-    };
-    unmerge(table, memory, frame1, one, frame2, asid, gpa);
-    Answer::Done
+    match leaves::consulted(table, memory, one, asid) {
+        LeafWord::Misshapen => Place::Refused(Refusal::BrokenLeaf),
+        LeafWord::Absent => Place::Refused(Refusal::NoPlace),
+        LeafWord::Present(gpa) => Place::Good(one, gpa),
+    }
 }
 
-// What an accepted PUNMERGE does: entry 2 is entry 1, moved.
+// Entry 2 is entry 1, moved.
 fn unmerge(
     table: &mut [u64],
     memory: &mut [u64],
@@ -142,9 +153,7 @@ fn unmerge(
     gpa: u64,
 )
     ensures { λ _. ⌜ state (now (table .exit)) (now (memory .exit))
-        ≡ withWord
-        (withEntry (withCopy (state (now (table .entry)) (now (memory .entry))) frame1 frame2) frame2 (toMoved one asid gpa))
-        (leafFrame one) asid 0 ⌝ }
+        ≡ moving (state (now (table .entry)) (now (memory .entry))) frame1 one frame2 asid gpa ⌝ }
 {
     frame::copy(memory, frame1, frame2);
     table::put(table, frame2, one.to_moved(asid, gpa));

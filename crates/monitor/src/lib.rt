@@ -12,10 +12,10 @@ pub use assignment::pvalidate;
 pub use assignment::rmpupdate;
 pub use checks::answer::Answer;
 pub use checks::answer::Refusal;
-pub use merging::fix::pfix;
-pub use merging::fix::punfix;
-pub use merging::merge::pmerge;
-pub use merging::merge::punmerge;
+pub use merging::pfix;
+pub use merging::pmerge;
+pub use merging::punfix;
+pub use merging::punmerge;
 
 // A call as a value, with its arguments in the order of the function that makes it.
 pub enum Call {

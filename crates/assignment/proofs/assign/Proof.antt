@@ -1,21 +1,19 @@
+-- `assignment::assign` meets its contract: the changes that it makes, one after the other, are those of the rule.
+-- Assumes nothing.
 use mathlib.Core.Path.{_≡_, refl}
 use mathlib.Core.Bool.{Bool, true, false}
 use mathlib.Core.List.{List}
 use Prim.Native.Nat.{ℕ}
+use borrow.Author.Needs.{needs}
 use Rattle.words.specs.Choice.{pick}
 use Rattle.words.specs.Frame.{zeroFrame}
+use Rattle.entries.specs.Entry.{entry}
 use Rattle.entries.specs.Table.{putEntry}
 use Rattle.entries.specs.declared.entry.Entry.{Entry}
-use Rattle.rules.specs.State.{state, withEntry, withZeros}
 use Rattle.rules.specs.Assignment.{assigning}
-use Rattle.entries.specs.Entry.{entry}
-use borrow.Author.Needs.{needs}
+use Rattle.rules.specs.State.{state, withEntry, withZeros}
 use Rattle.assignment.proofs.assign.Statement.{statement}
 use Rattle.assignment.proofs.assign.Tie as tie
-use Rattle.assignment.proofs.assign.Reads as reads
-use Rattle.assignment.proofs.assign.Lts as lts
-use Rattle.assignment.proofs.zero_unless.Reads as zero-unless-reads
-use Rattle.entries.proofs.table.put.Reads as put-reads
 
 zero-unless-requires : tie.Need-zero-unless-requires
 zero-unless-requires c κs = search needs
@@ -31,14 +29,17 @@ same-length-2 c = search needs
 
 assigned-by :
     (stays : Bool) (t m : List ℕ) (frame : ℕ) (e : Entry)
-    → withEntry (pick stays (state t m) (withZeros (state t m) frame)) frame e ≡ state (putEntry t frame e) (pick stays m (zeroFrame m frame))
+    → withEntry (pick stays (state t m) (withZeros (state t m) frame)) frame e
+    ≡ state (putEntry t frame e) (pick stays m (zeroFrame m frame))
 unfolding pick withEntry withZeros
 assigned-by true t m frame e = refl
 assigned-by false t m frame e = refl
 
 returns : tie.Need-returns
 unfolding assigning entry
-returns c = rw (c .before .before .put .ensures, c .before .before .before .before .before .before .zero-unless .ensures, assigned-by)
+returns c =
+    let at-put = c .before .before in let at-zero-unless = at-put .before .before .before .before in
+    rw (at-put .put .ensures, at-zero-unless .zero-unless .ensures, assigned-by)
 
 pub assign-spec : {M : Type 1} → statement M
 assign-spec =

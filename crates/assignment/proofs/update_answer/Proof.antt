@@ -1,9 +1,9 @@
-use Rattle.rules.specs.Assignment.{updateAnswer}
+-- `assignment::update_answer` meets its contract: each return is a case of the definition.
+-- Assumes nothing.
 use Rattle.words.specs.Choice.{pick}
+use Rattle.rules.specs.Assignment.{updateAnswer}
 use Rattle.assignment.proofs.update_answer.Statement.{statement}
 use Rattle.assignment.proofs.update_answer.Tie as tie
-use Rattle.assignment.proofs.update_answer.Reads as reads
-use Rattle.assignment.proofs.update_answer.Lts as lts
 
 returns : tie.Need-returns
 unfolding updateAnswer pick

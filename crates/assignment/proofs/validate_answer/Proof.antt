@@ -1,9 +1,9 @@
-use Rattle.rules.specs.Assignment.{validateAnswer}
+-- `assignment::validate_answer` meets its contract: each return is a case of the definition.
+-- Assumes nothing.
 use Rattle.words.specs.Choice.{pick}
+use Rattle.rules.specs.Assignment.{validateAnswer}
 use Rattle.assignment.proofs.validate_answer.Statement.{statement}
 use Rattle.assignment.proofs.validate_answer.Tie as tie
-use Rattle.assignment.proofs.validate_answer.Reads as reads
-use Rattle.assignment.proofs.validate_answer.Lts as lts
 
 returns : tie.Need-returns
 unfolding validateAnswer pick

@@ -1,10 +1,9 @@
-use Rattle.words.specs.Choice.{pick}
+-- `assignment::zero_unless` meets its contract: each return is a case of the definition.
+-- Assumes nothing.
 use borrow.Author.Needs.{needs}
+use Rattle.words.specs.Choice.{pick}
 use Rattle.assignment.proofs.zero_unless.Statement.{statement}
 use Rattle.assignment.proofs.zero_unless.Tie as tie
-use Rattle.assignment.proofs.zero_unless.Reads as reads
-use Rattle.assignment.proofs.zero_unless.Lts as lts
-use Rattle.words.proofs.frame.zero.Reads as zero-reads
 
 returns : tie.Need-returns
 unfolding pick

@@ -1,18 +1,9 @@
-use Rattle.rules.specs.Calls.{step}
+-- `monitor::step` meets its contract: each arm makes the rule's call, and the call promises the rule's outcome.
+-- Assumes nothing.
 use borrow.Author.Needs.{needs}
+use Rattle.rules.specs.Calls.{step}
 use Rattle.monitor.proofs.step.Statement.{statement}
 use Rattle.monitor.proofs.step.Tie as tie
-use Rattle.monitor.proofs.step.Reads as reads
-use Rattle.monitor.proofs.step.Lts as lts
-use Rattle.access.proofs.census.census.Reads as census-reads
-use Rattle.access.proofs.transfer.read.Reads as read-reads
-use Rattle.access.proofs.transfer.write.Reads as write-reads
-use Rattle.assignment.proofs.pvalidate.Reads as pvalidate-reads
-use Rattle.assignment.proofs.rmpupdate.Reads as rmpupdate-reads
-use Rattle.merging.proofs.fix.pfix.Reads as pfix-reads
-use Rattle.merging.proofs.fix.punfix.Reads as punfix-reads
-use Rattle.merging.proofs.merge.pmerge.Reads as pmerge-reads
-use Rattle.merging.proofs.merge.punmerge.Reads as punmerge-reads
 
 enum-known-call : tie.Need-enum-known-call
 enum-known-call c = search needs
@@ -76,7 +67,9 @@ same-length-2 c = search needs
 
 returns : tie.Need-returns
 unfolding step
-returns c = rw (c .before .before .before .before .before .before .before .before .call .given .1, ← c .before .before .before .before .rmpupdate .ensures)
+returns c =
+    let at-rmpupdate = c .before .before .before .before in let at-call = at-rmpupdate .before .before .before .before in
+    rw (at-call .call .given .1, ← at-rmpupdate .rmpupdate .ensures)
 
 same-length-3 : tie.Need-same-length-3
 same-length-3 c = search needs
@@ -86,7 +79,9 @@ same-length-4 c = search needs
 
 returns-2 : tie.Need-returns-2
 unfolding step
-returns-2 c = rw (c .before .before .before .before .before .before .call2 .given .1, ← c .before .before .pvalidate .ensures)
+returns-2 c =
+    let at-pvalidate = c .before .before in let at-call2 = at-pvalidate .before .before .before .before in
+    rw (at-call2 .call2 .given .1, ← at-pvalidate .pvalidate .ensures)
 
 same-length-5 : tie.Need-same-length-5
 same-length-5 c = search needs
@@ -96,7 +91,9 @@ same-length-6 c = search needs
 
 returns-3 : tie.Need-returns-3
 unfolding step
-returns-3 c = rw (c .before .before .before .before .before .before .before .before .call3 .given .1, ← c .before .before .before .before .pfix .ensures)
+returns-3 c =
+    let at-pfix = c .before .before .before .before in let at-call3 = at-pfix .before .before .before .before in
+    rw (at-call3 .call3 .given .1, ← at-pfix .pfix .ensures)
 
 same-length-7 : tie.Need-same-length-7
 same-length-7 c = search needs
@@ -106,7 +103,9 @@ same-length-8 c = search needs
 
 returns-4 : tie.Need-returns-4
 unfolding step
-returns-4 c = rw (c .before .before .before .before .before .before .before .before .call4 .given .1, ← c .before .before .before .before .pmerge .ensures)
+returns-4 c =
+    let at-pmerge = c .before .before .before .before in let at-call4 = at-pmerge .before .before .before .before in
+    rw (at-call4 .call4 .given .1, ← at-pmerge .pmerge .ensures)
 
 same-length-9 : tie.Need-same-length-9
 same-length-9 c = search needs
@@ -116,7 +115,9 @@ same-length-10 c = search needs
 
 returns-5 : tie.Need-returns-5
 unfolding step
-returns-5 c = rw (c .before .before .before .before .before .before .before .before .call5 .given .1, ← c .before .before .before .before .punmerge .ensures)
+returns-5 c =
+    let at-punmerge = c .before .before .before .before in let at-call5 = at-punmerge .before .before .before .before in
+    rw (at-call5 .call5 .given .1, ← at-punmerge .punmerge .ensures)
 
 same-length-11 : tie.Need-same-length-11
 same-length-11 c = search needs
@@ -126,7 +127,9 @@ same-length-12 c = search needs
 
 returns-6 : tie.Need-returns-6
 unfolding step
-returns-6 c = rw (c .before .before .before .before .before .before .before .before .call6 .given .1, ← c .before .before .before .before .punfix .ensures)
+returns-6 c =
+    let at-punfix = c .before .before .before .before in let at-call6 = at-punfix .before .before .before .before in
+    rw (at-call6 .call6 .given .1, ← at-punfix .punfix .ensures)
 
 same-length-13 : tie.Need-same-length-13
 same-length-13 c = search needs
@@ -146,7 +149,9 @@ same-length-16 c = search needs
 
 returns-8 : tie.Need-returns-8
 unfolding step
-returns-8 c = rw (c .before .before .before .before .before .before .call8 .given .1, ← c .before .before .write .ensures)
+returns-8 c =
+    let at-write = c .before .before in let at-call8 = at-write .before .before .before .before in
+    rw (at-call8 .call8 .given .1, ← at-write .write .ensures)
 
 same-length-17 : tie.Need-same-length-17
 same-length-17 c = search needs

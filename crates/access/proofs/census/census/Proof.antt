@@ -1,14 +1,12 @@
-use Rattle.rules.specs.Census.{census, reported}
-use Rattle.rules.specs.Answers.{settle}
-use Rattle.checks.specs.Gate.{past}
-use Rattle.rules.specs.State.{N}
+-- `access::census::census` meets its contract: a shut gate is the rule's refusal, and past an open one the rule is what is done.
+-- Assumes nothing.
 use borrow.Author.Needs.{needs}
+use Rattle.rules.specs.Answers.{settle}
+use Rattle.rules.specs.Census.{census, reported}
+use Rattle.rules.specs.State.{N}
+use Rattle.checks.specs.Gate.{past}
 use Rattle.access.proofs.census.census.Statement.{statement}
 use Rattle.access.proofs.census.census.Tie as tie
-use Rattle.access.proofs.census.census.Reads as reads
-use Rattle.access.proofs.census.census.Lts as lts
-use Rattle.access.proofs.census.count_places.Reads as count-places-reads
-use Rattle.checks.proofs.begin.census.Reads as census-reads
 
 census-requires : tie.Need-census-requires
 census-requires c κs = search needs
@@ -34,11 +32,27 @@ enum-known-counted-2 c = search needs
 
 returns-2 : tie.Need-returns-2
 unfolding census settle past reported N
-returns-2 c = rw (← c .before .before .before .before .before .before .census .ensures, c .before .before .before .before .enum-told .given .1, ← c .before .before .before .count-places .ensures, c .before .counted .given .1)
+returns-2 c =
+    let at-counted = c .before in let at-count-places = at-counted .before .before in let at-enum-told = at-count-places .before in
+    let at-census = at-enum-told .before .before in
+    rw (
+      ← at-census .census .ensures,
+      at-enum-told .enum-told .given .1,
+      ← at-count-places .count-places .ensures,
+      at-counted .counted .given .1,
+    )
 
 returns-3 : tie.Need-returns-3
 unfolding census settle past reported N
-returns-3 c = rw (← c .before .before .before .before .before .before .census .ensures, c .before .before .before .before .enum-told .given .1, ← c .before .before .before .count-places .ensures, c .before .counted2 .given .1)
+returns-3 c =
+    let at-counted2 = c .before in let at-count-places = at-counted2 .before .before in let at-enum-told = at-count-places .before in
+    let at-census = at-enum-told .before .before in
+    rw (
+      ← at-census .census .ensures,
+      at-enum-told .enum-told .given .1,
+      ← at-count-places .count-places .ensures,
+      at-counted2 .counted2 .given .1,
+    )
 
 pub census-spec : {M : Type 1} → statement M
 census-spec =

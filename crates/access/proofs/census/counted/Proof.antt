@@ -1,9 +1,9 @@
-use Rattle.rules.specs.Census.{counted}
+-- `access::census::counted` meets its contract: each return is a case of the definition.
+-- Assumes nothing.
 use borrow.Author.Needs.{needs}
+use Rattle.rules.specs.Census.{counted}
 use Rattle.access.proofs.census.counted.Statement.{statement}
 use Rattle.access.proofs.census.counted.Tie as tie
-use Rattle.access.proofs.census.counted.Reads as reads
-use Rattle.access.proofs.census.counted.Lts as lts
 
 enum-told : tie.Need-enum-told
 enum-told c = search needs

@@ -1,15 +1,12 @@
+-- `access::census::holding_at` meets its contract: each return is a case of the definition.
+-- Assumes nothing.
+use borrow.Author.Needs.{needs}
+use Rattle.words.specs.Choice.{_and_}
+use Rattle.words.proofs.ChoiceLaws.{pick-true, pick-false}
 use Rattle.rules.specs.Census.{holding, inEntry}
 use Rattle.rules.specs.State.{entryAt}
-use Rattle.words.proofs.ChoiceLaws.{pick-true, pick-false}
-use Rattle.words.specs.Choice.{_and_}
-use borrow.Author.Needs.{needs}
 use Rattle.access.proofs.census.holding_at.Statement.{statement}
 use Rattle.access.proofs.census.holding_at.Tie as tie
-use Rattle.access.proofs.census.holding_at.Reads as reads
-use Rattle.access.proofs.census.holding_at.Lts as lts
-use Rattle.access.proofs.census.in_leaf.Reads as in-leaf-reads
-use Rattle.checks.proofs.leaves.consulted.Reads as consulted-reads
-use Rattle.entries.proofs.table.read.Reads as read-reads
 
 read-requires : tie.Need-read-requires
 read-requires c κs = search needs
@@ -32,15 +29,28 @@ in-leaf-requires c κs = search needs
 
 returns-2 : tie.Need-returns-2
 unfolding holding inEntry entryAt _and_
-returns-2 c = rw (← c .before .before .before .before .before .before .read .ensures, c .before .before .before .before .page .given .1, pick-true _ _ (c .before .before .if1 .taken), c .in-leaf .ensures, c .before .consulted .ensures)
+returns-2 c =
+    let at-consulted = c .before in let at-if1 = at-consulted .before in let at-page = at-if1 .before .before in
+    let at-read = at-page .before .before in
+    rw (
+      ← at-read .read .ensures,
+      at-page .page .given .1,
+      pick-true _ _ (at-if1 .if1 .taken),
+      c .in-leaf .ensures,
+      at-consulted .consulted .ensures,
+    )
 
 returns-3 : tie.Need-returns-3
 unfolding holding inEntry entryAt _and_
-returns-3 c = rw (← c .before .before .before .before .before .before .before .read .ensures, c .before .before .before .before .before .page .given .1, pick-false _ _ (c .before .before .before .if1 .left), pick-true _ _ (c .if2 .taken))
+returns-3 c =
+    let at-if1 = c .before .before .before in let at-page = at-if1 .before .before in let at-read = at-page .before .before in
+    rw (← at-read .read .ensures, at-page .page .given .1, pick-false _ _ (at-if1 .if1 .left), pick-true _ _ (c .if2 .taken))
 
 returns-4 : tie.Need-returns-4
 unfolding holding inEntry entryAt _and_
-returns-4 c = rw (← c .before .before .before .before .before .before .before .read .ensures, c .before .before .before .before .before .page .given .1, pick-false _ _ (c .before .before .before .if1 .left), pick-false _ _ (c .if2 .left))
+returns-4 c =
+    let at-if1 = c .before .before .before in let at-page = at-if1 .before .before in let at-read = at-page .before .before in
+    rw (← at-read .read .ensures, at-page .page .given .1, pick-false _ _ (at-if1 .if1 .left), pick-false _ _ (c .if2 .left))
 
 pub holding-at-spec : {M : Type 1} → statement M
 holding-at-spec =

@@ -1,9 +1,9 @@
-use Rattle.rules.specs.Census.{inLeaf}
+-- `access::census::in_leaf` meets its contract: each return is a case of the definition.
+-- Assumes nothing.
 use borrow.Author.Needs.{needs}
+use Rattle.rules.specs.Census.{inLeaf}
 use Rattle.access.proofs.census.in_leaf.Statement.{statement}
 use Rattle.access.proofs.census.in_leaf.Tie as tie
-use Rattle.access.proofs.census.in_leaf.Reads as reads
-use Rattle.access.proofs.census.in_leaf.Lts as lts
 
 enum-told : tie.Need-enum-told
 enum-told c = search needs

@@ -1,16 +1,13 @@
+-- `access::check::access` meets its contract: each return is a case of the rule. What the calls before it promise, and the arm taken
+-- at each, rewrite the rule to it.
+-- Assumes nothing.
+use borrow.Author.Needs.{needs}
+use Rattle.words.specs.Choice.{pick}
 use Rattle.rules.specs.Access.{access}
 use Rattle.rules.specs.State.{covers, N}
-use Rattle.words.specs.Choice.{pick}
 use Rattle.checks.specs.Gate.{past}
-use borrow.Author.Needs.{needs}
 use Rattle.access.proofs.check.access.Statement.{statement}
 use Rattle.access.proofs.check.access.Tie as tie
-use Rattle.access.proofs.check.access.Reads as reads
-use Rattle.access.proofs.check.access.Lts as lts
-use Rattle.access.proofs.check.covered.Reads as covered-reads
-use Rattle.checks.proofs.begin.access.Reads as access-reads
-use Rattle.checks.proofs.begin.covers.Reads as covers-reads
-use Rattle.checks.proofs.gate.go_on.Reads as go-on-reads
 
 access-requires : tie.Need-access-requires
 access-requires c κs = search needs
@@ -33,7 +30,10 @@ enum-known-alike c = search needs
 
 returns-2 : tie.Need-returns-2
 unfolding access covers N pick past
-returns-2 c = λ v. rw (← c .before .before .before .before .before .before .access .ensures, c .before .before .before .before .enum-told .given .1, ← c .before .before .before .go-on .ensures, c .before .alike .given .1)
+returns-2 c =
+    let at-alike = c .before in let at-go-on = at-alike .before .before in let at-enum-told = at-go-on .before in
+    let at-access = at-enum-told .before .before in
+    λ v. rw (← at-access .access .ensures, at-enum-told .enum-told .given .1, ← at-go-on .go-on .ensures, at-alike .alike .given .1)
 
 enum-told-2 : tie.Need-enum-told-2
 enum-told-2 c = search needs
@@ -46,14 +46,38 @@ covered-requires c κs = search needs
 
 returns-3 : tie.Need-returns-3
 unfolding access covers N pick past
-returns-3 c = λ v. rw (← c .before .before .before .before .before .before .before .before .access .ensures, c .before .before .before .before .before .before .enum-told .given .1, ← c .before .before .before .before .before .go-on .ensures, c .before .before .before .enum-told2 .given .1, ← c .before .before .covers .ensures, c .before .if1 .taken, ← c .covered .ensures v)
+returns-3 c =
+    let at-if1 = c .before in let at-covers = at-if1 .before in let at-enum-told2 = at-covers .before in
+    let at-go-on = at-enum-told2 .before .before in let at-enum-told = at-go-on .before in
+    let at-access = at-enum-told .before .before in
+    λ v. rw (
+      ← at-access .access .ensures,
+      at-enum-told .enum-told .given .1,
+      ← at-go-on .go-on .ensures,
+      at-enum-told2 .enum-told2 .given .1,
+      ← at-covers .covers .ensures,
+      at-if1 .if1 .taken,
+      ← c .covered .ensures v,
+    )
 
 go-on-requires-2 : tie.Need-go-on-requires-2
 go-on-requires-2 c κs = search needs
 
 returns-4 : tie.Need-returns-4
 unfolding access covers N pick past
-returns-4 c = λ v. rw (← c .before .before .before .before .before .before .before .before .access .ensures, c .before .before .before .before .before .before .enum-told .given .1, ← c .before .before .before .before .before .go-on .ensures, c .before .before .before .enum-told2 .given .1, ← c .before .before .covers .ensures, c .before .if1 .left, ← c .go-on2 .ensures v)
+returns-4 c =
+    let at-if1 = c .before in let at-covers = at-if1 .before in let at-enum-told2 = at-covers .before in
+    let at-go-on = at-enum-told2 .before .before in let at-enum-told = at-go-on .before in
+    let at-access = at-enum-told .before .before in
+    λ v. rw (
+      ← at-access .access .ensures,
+      at-enum-told .enum-told .given .1,
+      ← at-go-on .go-on .ensures,
+      at-enum-told2 .enum-told2 .given .1,
+      ← at-covers .covers .ensures,
+      at-if1 .if1 .left,
+      ← c .go-on2 .ensures v,
+    )
 
 pub access-spec : {M : Type 1} → statement M
 access-spec =

@@ -1,14 +1,12 @@
+-- `access::check::fixed` meets its contract: each return is a case of the rule. What the calls before it promise, and the arm taken
+-- at each, rewrite the rule to it.
+-- Assumes nothing.
+use borrow.Author.Needs.{needs}
 use Rattle.rules.specs.Access.{fixedAccess}
 use Rattle.rules.specs.Leaves.{placed}
 use Rattle.checks.specs.Gate.{past}
-use borrow.Author.Needs.{needs}
 use Rattle.access.proofs.check.fixed.Statement.{statement}
 use Rattle.access.proofs.check.fixed.Tie as tie
-use Rattle.access.proofs.check.fixed.Reads as reads
-use Rattle.access.proofs.check.fixed.Lts as lts
-use Rattle.checks.proofs.gate.go_on.Reads as go-on-reads
-use Rattle.checks.proofs.gates.fixed_access.Reads as fixed-access-reads
-use Rattle.checks.proofs.leaves.consulted.Reads as consulted-reads
 
 fixed-access-requires : tie.Need-fixed-access-requires
 fixed-access-requires c κs = search needs
@@ -40,15 +38,40 @@ go-on-requires c κs = search needs
 
 returns-2 : tie.Need-returns-2
 unfolding fixedAccess placed past
-returns-2 c = λ v. rw (← c .before .before .before .before .before .fixed-access .ensures, c .before .before .before .enum-told .given .1, ← c .before .before .consulted .ensures, c .enum-told2 .given .1)
+returns-2 c =
+    let at-consulted = c .before .before in let at-enum-told = at-consulted .before in
+    let at-fixed-access = at-enum-told .before .before in
+    λ v. rw (
+      ← at-fixed-access .fixed-access .ensures,
+      at-enum-told .enum-told .given .1,
+      ← at-consulted .consulted .ensures,
+      c .enum-told2 .given .1,
+    )
 
 returns-3 : tie.Need-returns-3
 unfolding fixedAccess placed past
-returns-3 c = λ v. rw (← c .before .before .before .before .before .fixed-access .ensures, c .before .before .before .enum-told .given .1, ← c .before .before .consulted .ensures, c .enum-told3 .given .1)
+returns-3 c =
+    let at-consulted = c .before .before in let at-enum-told = at-consulted .before in
+    let at-fixed-access = at-enum-told .before .before in
+    λ v. rw (
+      ← at-fixed-access .fixed-access .ensures,
+      at-enum-told .enum-told .given .1,
+      ← at-consulted .consulted .ensures,
+      c .enum-told3 .given .1,
+    )
 
 returns-4 : tie.Need-returns-4
 unfolding fixedAccess placed past
-returns-4 c = λ v. rw (← c .before .before .before .before .before .before .before .fixed-access .ensures, c .before .before .before .before .before .enum-told .given .1, ← c .before .before .before .before .consulted .ensures, c .before .before .word .given .1, ← c .go-on .ensures v)
+returns-4 c =
+    let at-word = c .before .before in let at-consulted = at-word .before .before in let at-enum-told = at-consulted .before in
+    let at-fixed-access = at-enum-told .before .before in
+    λ v. rw (
+      ← at-fixed-access .fixed-access .ensures,
+      at-enum-told .enum-told .given .1,
+      ← at-consulted .consulted .ensures,
+      at-word .word .given .1,
+      ← c .go-on .ensures v,
+    )
 
 pub fixed-spec : {M : Type 1} → statement M
 fixed-spec =

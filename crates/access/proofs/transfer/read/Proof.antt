@@ -1,15 +1,12 @@
+-- `access::transfer::read` meets its contract: a shut gate is the rule's refusal, and past an open one the rule is what is done.
+-- Assumes nothing.
+use borrow.Author.Needs.{needs}
 use Rattle.rules.specs.Access.{read}
 use Rattle.rules.specs.Answers.{settle}
-use Rattle.checks.specs.Gate.{past}
 use Rattle.rules.specs.State.{wordAt}
-use borrow.Author.Needs.{needs}
+use Rattle.checks.specs.Gate.{past}
 use Rattle.access.proofs.transfer.read.Statement.{statement}
 use Rattle.access.proofs.transfer.read.Tie as tie
-use Rattle.access.proofs.transfer.read.Reads as reads
-use Rattle.access.proofs.transfer.read.Lts as lts
-use Rattle.access.proofs.check.access.Reads as access-reads
-use Rattle.entries.proofs.entry.frame_of.Reads as frame-of-reads
-use Rattle.words.proofs.frame.word.Reads as word-reads
 
 access-requires : tie.Need-access-requires
 access-requires c κs = search needs
@@ -32,7 +29,9 @@ word-requires c κs = search needs
 
 returns-2 : tie.Need-returns-2
 unfolding read settle past wordAt
-returns-2 c = rw (← c .before .before .before .before .access .ensures, c .before .before .enum-told .given .1, ← c .before .frame-of .ensures, ← c .word .ensures)
+returns-2 c =
+    let at-frame-of = c .before in let at-enum-told = at-frame-of .before in let at-access = at-enum-told .before .before in
+    rw (← at-access .access .ensures, at-enum-told .enum-told .given .1, ← at-frame-of .frame-of .ensures, ← c .word .ensures)
 
 pub read-spec : {M : Type 1} → statement M
 read-spec =

@@ -1,15 +1,12 @@
+-- `access::transfer::write` meets its contract: a shut gate is the rule's refusal, and past an open one the rule is what is done.
+-- Assumes nothing.
+use borrow.Author.Needs.{needs}
 use Rattle.rules.specs.Access.{write}
 use Rattle.rules.specs.Answers.{settle}
-use Rattle.checks.specs.Gate.{past}
 use Rattle.rules.specs.State.{withWord}
-use borrow.Author.Needs.{needs}
+use Rattle.checks.specs.Gate.{past}
 use Rattle.access.proofs.transfer.write.Statement.{statement}
 use Rattle.access.proofs.transfer.write.Tie as tie
-use Rattle.access.proofs.transfer.write.Reads as reads
-use Rattle.access.proofs.transfer.write.Lts as lts
-use Rattle.access.proofs.check.access.Reads as access-reads
-use Rattle.entries.proofs.entry.frame_of.Reads as frame-of-reads
-use Rattle.words.proofs.frame.put_word.Reads as put-word-reads
 
 access-requires : tie.Need-access-requires
 access-requires c κs = search needs
@@ -38,7 +35,15 @@ same-length-2 c = search needs
 
 returns-2 : tie.Need-returns-2
 unfolding write settle past withWord
-returns-2 c = rw (← c .before .before .before .before .before .before .before .access .ensures, c .before .before .before .before .before .enum-told .given .1, ← c .before .before .before .frame-of .ensures, ← c .before .before .put-word .ensures)
+returns-2 c =
+    let at-put-word = c .before .before in let at-frame-of = at-put-word .before in let at-enum-told = at-frame-of .before .before in
+    let at-access = at-enum-told .before .before in
+    rw (
+      ← at-access .access .ensures,
+      at-enum-told .enum-told .given .1,
+      ← at-frame-of .frame-of .ensures,
+      ← at-put-word .put-word .ensures,
+    )
 
 pub write-spec : {M : Type 1} → statement M
 write-spec =

@@ -1,8 +1,8 @@
+-- `checks::arguments::is_host` meets its contract: the tests that it joins promise those of the definition.
+-- Assumes nothing.
 use Rattle.rules.specs.Arguments.{isHost}
 use Rattle.checks.proofs.arguments.is_host.Statement.{statement}
 use Rattle.checks.proofs.arguments.is_host.Tie as tie
-use Rattle.checks.proofs.arguments.is_host.Reads as reads
-use Rattle.checks.proofs.arguments.is_host.Lts as lts
 
 returns : tie.Need-returns
 unfolding isHost

@@ -1,11 +1,10 @@
-use Rattle.rules.specs.Arguments.{mayAccess}
-use Rattle.words.specs.Choice.{_or_, _and_}
+-- `checks::arguments::may_access` meets its contract: the tests that it joins promise those of the definition.
+-- Assumes nothing.
 use borrow.Author.Needs.{needs}
+use Rattle.words.specs.Choice.{_and_, _or_}
+use Rattle.rules.specs.Arguments.{mayAccess}
 use Rattle.checks.proofs.arguments.may_access.Statement.{statement}
 use Rattle.checks.proofs.arguments.may_access.Tie as tie
-use Rattle.checks.proofs.arguments.may_access.Reads as reads
-use Rattle.checks.proofs.arguments.may_access.Lts as lts
-use Rattle.checks.proofs.arguments.is_host.Reads as is-host-reads
 
 is-host-requires : tie.Need-is-host-requires
 is-host-requires c κs = search needs

@@ -1,12 +1,10 @@
-use Rattle.rules.specs.Arguments.{twoFrameArguments}
-use Rattle.words.specs.Choice.{_and_}
+-- `checks::arguments::two_frames` meets its contract: the tests that it joins promise those of the definition.
+-- Assumes nothing.
 use borrow.Author.Needs.{needs}
+use Rattle.words.specs.Choice.{_and_}
+use Rattle.rules.specs.Arguments.{twoFrameArguments}
 use Rattle.checks.proofs.arguments.two_frames.Statement.{statement}
 use Rattle.checks.proofs.arguments.two_frames.Tie as tie
-use Rattle.checks.proofs.arguments.two_frames.Reads as reads
-use Rattle.checks.proofs.arguments.two_frames.Lts as lts
-use Rattle.entries.proofs.entry.is_address.Reads as is-address-reads
-use Rattle.entries.proofs.entry.is_party.Reads as is-party-reads
 
 is-party-requires : tie.Need-is-party-requires
 is-party-requires c κs = search needs

@@ -1,12 +1,10 @@
-use Rattle.rules.specs.Arguments.{unmergeArguments}
-use Rattle.words.specs.Choice.{_and_}
+-- `checks::arguments::unmerge` meets its contract: the tests that it joins promise those of the definition.
+-- Assumes nothing.
 use borrow.Author.Needs.{needs}
+use Rattle.words.specs.Choice.{_and_}
+use Rattle.rules.specs.Arguments.{unmergeArguments}
 use Rattle.checks.proofs.arguments.unmerge.Statement.{statement}
 use Rattle.checks.proofs.arguments.unmerge.Tie as tie
-use Rattle.checks.proofs.arguments.unmerge.Reads as reads
-use Rattle.checks.proofs.arguments.unmerge.Lts as lts
-use Rattle.checks.proofs.arguments.two_frames.Reads as two-frames-reads
-use Rattle.entries.proofs.entry.is_guest.Reads as is-guest-reads
 
 two-frames-requires : tie.Need-two-frames-requires
 two-frames-requires c κs = search needs

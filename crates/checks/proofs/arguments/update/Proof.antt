@@ -1,14 +1,10 @@
-use Rattle.rules.specs.Arguments.{updateArguments}
-use Rattle.words.specs.Choice.{_and_, _or_}
+-- `checks::arguments::update` meets its contract: the tests that it joins promise those of the definition.
+-- Assumes nothing.
 use borrow.Author.Needs.{needs}
+use Rattle.words.specs.Choice.{_and_, _or_}
+use Rattle.rules.specs.Arguments.{updateArguments}
 use Rattle.checks.proofs.arguments.update.Statement.{statement}
 use Rattle.checks.proofs.arguments.update.Tie as tie
-use Rattle.checks.proofs.arguments.update.Reads as reads
-use Rattle.checks.proofs.arguments.update.Lts as lts
-use Rattle.entries.proofs.entry.is_address.Reads as is-address-reads
-use Rattle.entries.proofs.entry.is_owned.Reads as is-owned-reads
-use Rattle.entries.proofs.entry.is_party.Reads as is-party-reads
-use Rattle.entries.proofs.entry.is_unowned.Reads as is-unowned-reads
 
 is-party-requires : tie.Need-is-party-requires
 is-party-requires c κs = search needs
@@ -30,7 +26,17 @@ is-owned-requires c κs = search needs
 
 returns : tie.Need-returns
 unfolding updateArguments _and_ _or_
-returns c = rw (c .is-owned .ensures, c .before .is-unowned .ensures, c .before .before .is-party2 .ensures, c .before .before .before .is-address2 .ensures, c .before .before .before .before .is-address .ensures, c .before .before .before .before .before .is-party .ensures)
+returns c =
+    let at-is-unowned = c .before in let at-is-party2 = at-is-unowned .before in let at-is-address2 = at-is-party2 .before in
+    let at-is-address = at-is-address2 .before in let at-is-party = at-is-address .before in
+    rw (
+      c .is-owned .ensures,
+      at-is-unowned .is-unowned .ensures,
+      at-is-party2 .is-party2 .ensures,
+      at-is-address2 .is-address2 .ensures,
+      at-is-address .is-address .ensures,
+      at-is-party .is-party .ensures,
+    )
 
 pub update-spec : {M : Type 1} → statement M
 update-spec =

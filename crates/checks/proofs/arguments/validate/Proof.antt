@@ -1,13 +1,10 @@
-use Rattle.rules.specs.Arguments.{validateArguments}
-use Rattle.words.specs.Choice.{_and_}
+-- `checks::arguments::validate` meets its contract: the tests that it joins promise those of the definition.
+-- Assumes nothing.
 use borrow.Author.Needs.{needs}
+use Rattle.words.specs.Choice.{_and_}
+use Rattle.rules.specs.Arguments.{validateArguments}
 use Rattle.checks.proofs.arguments.validate.Statement.{statement}
 use Rattle.checks.proofs.arguments.validate.Tie as tie
-use Rattle.checks.proofs.arguments.validate.Reads as reads
-use Rattle.checks.proofs.arguments.validate.Lts as lts
-use Rattle.entries.proofs.entry.is_address.Reads as is-address-reads
-use Rattle.entries.proofs.entry.is_owned.Reads as is-owned-reads
-use Rattle.entries.proofs.entry.is_party.Reads as is-party-reads
 
 is-party-requires : tie.Need-is-party-requires
 is-party-requires c κs = search needs
@@ -23,7 +20,9 @@ is-owned-requires c κs = search needs
 
 returns : tie.Need-returns
 unfolding validateArguments _and_
-returns c = rw (c .is-owned .ensures, c .before .is-address2 .ensures, c .before .before .is-address .ensures, c .before .before .before .is-party .ensures)
+returns c =
+    let at-is-address2 = c .before in let at-is-address = at-is-address2 .before in let at-is-party = at-is-address .before in
+    rw (c .is-owned .ensures, at-is-address2 .is-address2 .ensures, at-is-address .is-address .ensures, at-is-party .is-party .ensures)
 
 pub validate-spec : {M : Type 1} → statement M
 validate-spec =

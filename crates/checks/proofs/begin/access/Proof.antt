@@ -1,14 +1,9 @@
-use Rattle.rules.specs.State.{M}
+-- `checks::begin::access` meets its contract: the tests, and the checks in their order, are those of the definition.
+-- Assumes nothing.
 use borrow.Author.Needs.{needs}
+use Rattle.rules.specs.State.{M}
 use Rattle.checks.proofs.begin.access.Statement.{statement}
 use Rattle.checks.proofs.begin.access.Tie as tie
-use Rattle.checks.proofs.begin.access.Reads as reads
-use Rattle.checks.proofs.begin.access.Lts as lts
-use Rattle.checks.proofs.arguments.access.Reads as access-reads
-use Rattle.checks.proofs.arguments.may_access.Reads as may-access-reads
-use Rattle.checks.proofs.begin.begin.Reads as begin-reads
-use Rattle.entries.proofs.entry.frame_of.Reads as frame-of-reads
-use Rattle.words.proofs.frame.count.Reads as count-reads
 
 access-requires : tie.Need-access-requires
 access-requires c κs = search needs
@@ -27,7 +22,16 @@ begin-requires c κs = search needs
 
 returns : tie.Need-returns
 unfolding M
-returns c = λ v. rw (c .begin .ensures v, c .before .count .ensures, c .before .before .frame-of .ensures, c .before .before .before .may-access .ensures, c .before .before .before .before .access .ensures)
+returns c =
+    let at-count = c .before in let at-frame-of = at-count .before in let at-may-access = at-frame-of .before in
+    let at-access = at-may-access .before in
+    λ v. rw (
+      c .begin .ensures v,
+      at-count .count .ensures,
+      at-frame-of .frame-of .ensures,
+      at-may-access .may-access .ensures,
+      at-access .access .ensures,
+    )
 
 pub access-spec : {M : Type 1} → statement M
 access-spec =

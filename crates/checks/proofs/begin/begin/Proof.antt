@@ -1,12 +1,10 @@
+-- `checks::begin::begin` meets its contract: the tests, and the checks in their order, are those of the definition.
+-- Assumes nothing.
+use borrow.Author.Needs.{needs}
 use Rattle.rules.specs.Answers.{begins}
 use Rattle.checks.specs.Gate.{past}
-use borrow.Author.Needs.{needs}
 use Rattle.checks.proofs.begin.begin.Statement.{statement}
 use Rattle.checks.proofs.begin.begin.Tie as tie
-use Rattle.checks.proofs.begin.begin.Reads as reads
-use Rattle.checks.proofs.begin.begin.Lts as lts
-use Rattle.checks.proofs.begin.sizes_hold.Reads as sizes-hold-reads
-use Rattle.checks.proofs.gate.go_on.Reads as go-on-reads
 
 go-on-requires : tie.Need-go-on-requires
 go-on-requires c κs = search needs
@@ -25,7 +23,16 @@ go-on-requires-4 c κs = search needs
 
 returns : tie.Need-returns
 unfolding begins past
-returns c = λ v. rw (c .go-on4 .ensures v, c .before .sizes-hold .ensures, c .before .before .go-on3 .ensures v, c .before .before .before .go-on2 .ensures v, c .before .before .before .before .go-on .ensures v)
+returns c =
+    let at-sizes-hold = c .before in let at-go-on3 = at-sizes-hold .before in let at-go-on2 = at-go-on3 .before in
+    let at-go-on = at-go-on2 .before in
+    λ v. rw (
+      c .go-on4 .ensures v,
+      at-sizes-hold .sizes-hold .ensures,
+      at-go-on3 .go-on3 .ensures v,
+      at-go-on2 .go-on2 .ensures v,
+      at-go-on .go-on .ensures v,
+    )
 
 pub begin-spec : {M : Type 1} → statement M
 begin-spec =

@@ -1,12 +1,9 @@
-use Rattle.checks.specs.Gate.{past}
+-- `checks::begin::census` meets its contract: the tests, and the checks in their order, are those of the definition.
+-- Assumes nothing.
 use borrow.Author.Needs.{needs}
+use Rattle.checks.specs.Gate.{past}
 use Rattle.checks.proofs.begin.census.Statement.{statement}
 use Rattle.checks.proofs.begin.census.Tie as tie
-use Rattle.checks.proofs.begin.census.Reads as reads
-use Rattle.checks.proofs.begin.census.Lts as lts
-use Rattle.checks.proofs.begin.sizes_hold.Reads as sizes-hold-reads
-use Rattle.checks.proofs.gate.go_on.Reads as go-on-reads
-use Rattle.entries.proofs.entry.is_guest.Reads as is-guest-reads
 
 is-guest-requires : tie.Need-is-guest-requires
 is-guest-requires c κs = search needs
@@ -22,7 +19,9 @@ go-on-requires-2 c κs = search needs
 
 returns : tie.Need-returns
 unfolding past
-returns c = λ v. rw (c .go-on2 .ensures v, c .before .sizes-hold .ensures, c .before .before .go-on .ensures v, c .before .before .before .is-guest .ensures)
+returns c =
+    let at-sizes-hold = c .before in let at-go-on = at-sizes-hold .before in let at-is-guest = at-go-on .before in
+    λ v. rw (c .go-on2 .ensures v, at-sizes-hold .sizes-hold .ensures, at-go-on .go-on .ensures v, at-is-guest .is-guest .ensures)
 
 pub census-spec : {M : Type 1} → statement M
 census-spec =

@@ -1,11 +1,9 @@
-use Rattle.rules.specs.State.{covers, N}
+-- `checks::begin::covers` meets its contract: the tests, and the checks in their order, are those of the definition.
+-- Assumes nothing.
 use borrow.Author.Needs.{needs}
+use Rattle.rules.specs.State.{covers, N}
 use Rattle.checks.proofs.begin.covers.Statement.{statement}
 use Rattle.checks.proofs.begin.covers.Tie as tie
-use Rattle.checks.proofs.begin.covers.Reads as reads
-use Rattle.checks.proofs.begin.covers.Lts as lts
-use Rattle.entries.proofs.entry.frame_of.Reads as frame-of-reads
-use Rattle.entries.proofs.table.covered.Reads as covered-reads
 
 frame-of-requires : tie.Need-frame-of-requires
 frame-of-requires c κs = search needs

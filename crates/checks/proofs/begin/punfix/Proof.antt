@@ -1,14 +1,10 @@
-use Rattle.rules.specs.State.{covers, N}
-use Rattle.words.specs.Choice.{_and_}
+-- `checks::begin::punfix` meets its contract: the tests, and the checks in their order, are those of the definition.
+-- Assumes nothing.
 use borrow.Author.Needs.{needs}
+use Rattle.words.specs.Choice.{_and_}
+use Rattle.rules.specs.State.{covers, N}
 use Rattle.checks.proofs.begin.punfix.Statement.{statement}
 use Rattle.checks.proofs.begin.punfix.Tie as tie
-use Rattle.checks.proofs.begin.punfix.Reads as reads
-use Rattle.checks.proofs.begin.punfix.Lts as lts
-use Rattle.checks.proofs.arguments.is_host.Reads as is-host-reads
-use Rattle.checks.proofs.arguments.one_frame.Reads as one-frame-reads
-use Rattle.checks.proofs.begin.begin.Reads as begin-reads
-use Rattle.checks.proofs.begin.covers.Reads as covers-reads
 
 one-frame-requires : tie.Need-one-frame-requires
 one-frame-requires c κs = search needs
@@ -24,7 +20,9 @@ begin-requires c κs = search needs
 
 returns : tie.Need-returns
 unfolding covers N _and_
-returns c = λ v. rw (c .begin .ensures v, c .before .covers .ensures, c .before .before .is-host .ensures, c .before .before .before .one-frame .ensures)
+returns c =
+    let at-covers = c .before in let at-is-host = at-covers .before in let at-one-frame = at-is-host .before in
+    λ v. rw (c .begin .ensures v, at-covers .covers .ensures, at-is-host .is-host .ensures, at-one-frame .one-frame .ensures)
 
 pub punfix-spec : {M : Type 1} → statement M
 punfix-spec =

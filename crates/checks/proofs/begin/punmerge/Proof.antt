@@ -1,14 +1,10 @@
-use Rattle.rules.specs.State.{covers, N}
-use Rattle.words.specs.Choice.{_and_}
+-- `checks::begin::punmerge` meets its contract: the tests, and the checks in their order, are those of the definition.
+-- Assumes nothing.
 use borrow.Author.Needs.{needs}
+use Rattle.words.specs.Choice.{_and_}
+use Rattle.rules.specs.State.{covers, N}
 use Rattle.checks.proofs.begin.punmerge.Statement.{statement}
 use Rattle.checks.proofs.begin.punmerge.Tie as tie
-use Rattle.checks.proofs.begin.punmerge.Reads as reads
-use Rattle.checks.proofs.begin.punmerge.Lts as lts
-use Rattle.checks.proofs.arguments.is_host.Reads as is-host-reads
-use Rattle.checks.proofs.arguments.unmerge.Reads as unmerge-reads
-use Rattle.checks.proofs.begin.begin.Reads as begin-reads
-use Rattle.checks.proofs.begin.covers.Reads as covers-reads
 
 unmerge-requires : tie.Need-unmerge-requires
 unmerge-requires c κs = search needs
@@ -27,7 +23,16 @@ begin-requires c κs = search needs
 
 returns : tie.Need-returns
 unfolding covers N _and_
-returns c = λ v. rw (c .begin .ensures v, c .before .covers2 .ensures, c .before .before .covers .ensures, c .before .before .before .is-host .ensures, c .before .before .before .before .unmerge .ensures)
+returns c =
+    let at-covers2 = c .before in let at-covers = at-covers2 .before in let at-is-host = at-covers .before in
+    let at-unmerge = at-is-host .before in
+    λ v. rw (
+      c .begin .ensures v,
+      at-covers2 .covers2 .ensures,
+      at-covers .covers .ensures,
+      at-is-host .is-host .ensures,
+      at-unmerge .unmerge .ensures,
+    )
 
 pub punmerge-spec : {M : Type 1} → statement M
 punmerge-spec =

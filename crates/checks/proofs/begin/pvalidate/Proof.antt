@@ -1,14 +1,10 @@
-use Rattle.rules.specs.State.{covers, N}
-use Rattle.words.specs.Choice.{_and_}
+-- `checks::begin::pvalidate` meets its contract: the tests, and the checks in their order, are those of the definition.
+-- Assumes nothing.
 use borrow.Author.Needs.{needs}
+use Rattle.words.specs.Choice.{_and_}
+use Rattle.rules.specs.State.{covers, N}
 use Rattle.checks.proofs.begin.pvalidate.Statement.{statement}
 use Rattle.checks.proofs.begin.pvalidate.Tie as tie
-use Rattle.checks.proofs.begin.pvalidate.Reads as reads
-use Rattle.checks.proofs.begin.pvalidate.Lts as lts
-use Rattle.checks.proofs.arguments.is_host.Reads as is-host-reads
-use Rattle.checks.proofs.arguments.validate.Reads as validate-reads
-use Rattle.checks.proofs.begin.begin.Reads as begin-reads
-use Rattle.checks.proofs.begin.covers.Reads as covers-reads
 
 validate-requires : tie.Need-validate-requires
 validate-requires c κs = search needs
@@ -24,7 +20,9 @@ begin-requires c κs = search needs
 
 returns : tie.Need-returns
 unfolding covers N _and_
-returns c = λ v. rw (c .begin .ensures v, c .before .covers .ensures, c .before .before .is-host .ensures, c .before .before .before .validate .ensures)
+returns c =
+    let at-covers = c .before in let at-is-host = at-covers .before in let at-validate = at-is-host .before in
+    λ v. rw (c .begin .ensures v, at-covers .covers .ensures, at-is-host .is-host .ensures, at-validate .validate .ensures)
 
 pub pvalidate-spec : {M : Type 1} → statement M
 pvalidate-spec =

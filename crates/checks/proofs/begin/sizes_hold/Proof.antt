@@ -1,14 +1,10 @@
-use Rattle.rules.specs.State.{sized, N, M}
-use Rattle.words.specs.Choice.{_and_}
+-- `checks::begin::sizes_hold` meets its contract: the tests, and the checks in their order, are those of the definition.
+-- Assumes nothing.
 use borrow.Author.Needs.{needs}
+use Rattle.words.specs.Choice.{_and_}
+use Rattle.rules.specs.State.{sized, N, M}
 use Rattle.checks.proofs.begin.sizes_hold.Statement.{statement}
 use Rattle.checks.proofs.begin.sizes_hold.Tie as tie
-use Rattle.checks.proofs.begin.sizes_hold.Reads as reads
-use Rattle.checks.proofs.begin.sizes_hold.Lts as lts
-use Rattle.entries.proofs.table.covered.Reads as covered-reads
-use Rattle.entries.proofs.table.is_whole.Reads as table-is-whole-reads
-use Rattle.words.proofs.frame.count.Reads as count-reads
-use Rattle.words.proofs.frame.is_whole.Reads as frame-is-whole-reads
 
 count-requires : tie.Need-count-requires
 count-requires c κs = search needs
@@ -24,7 +20,9 @@ is-whole-requires-2 c κs = search needs
 
 returns : tie.Need-returns
 unfolding sized N M _and_
-returns c = rw (c .is-whole2 .ensures, c .before .is-whole .ensures, c .before .before .covered .ensures, c .before .before .before .count .ensures)
+returns c =
+    let at-is-whole = c .before in let at-covered = at-is-whole .before in let at-count = at-covered .before in
+    rw (c .is-whole2 .ensures, at-is-whole .is-whole .ensures, at-covered .covered .ensures, at-count .count .ensures)
 
 pub sizes-hold-spec : {M : Type 1} → statement M
 sizes-hold-spec =

@@ -1,10 +1,11 @@
-use Rattle.rules.specs.Answers.{unless}
+-- `checks::gate::go_on` meets its contract: a check that passes leaves the rest as it is, and one
+-- that fails shuts the gate with its refusal.
+-- Assumes nothing.
 use Rattle.words.specs.Choice.{pick}
+use Rattle.rules.specs.Answers.{unless}
 use Rattle.checks.specs.Gate.{past}
 use Rattle.checks.proofs.gate.go_on.Statement.{statement}
 use Rattle.checks.proofs.gate.go_on.Tie as tie
-use Rattle.checks.proofs.gate.go_on.Reads as reads
-use Rattle.checks.proofs.gate.go_on.Lts as lts
 
 returns : tie.Need-returns
 unfolding unless pick past

@@ -1,11 +1,10 @@
-use Rattle.checks.specs.Needs.{needsOf, needsTable}
-use Rattle.words.specs.Choice.{pick}
+-- `checks::gates::access_need` meets its contract: the row of WRITE, and the row of READ.
+-- Assumes nothing.
 use borrow.Author.Needs.{needs}
+use Rattle.words.specs.Choice.{pick}
+use Rattle.checks.specs.Needs.{needsOf, needsTable}
 use Rattle.checks.proofs.gates.access_need.Statement.{statement}
 use Rattle.checks.proofs.gates.access_need.Tie as tie
-use Rattle.checks.proofs.gates.access_need.Reads as reads
-use Rattle.checks.proofs.gates.access_need.Lts as lts
-use Rattle.checks.proofs.needs.needs.Reads as needs-reads
 
 needs-requires : tie.Need-needs-requires
 needs-requires c κs = search needs

@@ -1,14 +1,11 @@
+-- `checks::gates::access_type` meets its contract: both rows need the type that the call names.
+-- Assumes nothing.
+use borrow.Author.Needs.{needs}
+use Rattle.words.specs.Choice.{pick}
 use Rattle.checks.specs.Gate.{past}
 use Rattle.checks.specs.Needs.{kindMet}
-use Rattle.words.specs.Choice.{pick}
-use borrow.Author.Needs.{needs}
 use Rattle.checks.proofs.gates.access_type.Statement.{statement}
 use Rattle.checks.proofs.gates.access_type.Tie as tie
-use Rattle.checks.proofs.gates.access_type.Reads as reads
-use Rattle.checks.proofs.gates.access_type.Lts as lts
-use Rattle.checks.proofs.gate.go_on.Reads as go-on-reads
-use Rattle.checks.proofs.gates.access_need.Reads as access-need-reads
-use Rattle.checks.proofs.needs.Need.kind_met.Reads as kind-met-reads
 
 access-need-requires : tie.Need-access-need-requires
 access-need-requires c κs = search needs

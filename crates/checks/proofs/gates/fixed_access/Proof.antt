@@ -1,17 +1,14 @@
+-- `checks::gates::fixed_access` meets its contract: WRITE needs FIXED clear, and READ does not ask.
+-- Assumes nothing.
 use mathlib.Core.Path.{_≡_, refl}
 use mathlib.Core.Bool.{Bool, true, false, not}
-use Rattle.checks.specs.Gate.{past}
-use Rattle.rules.specs.Answers.{when}
-use Rattle.checks.specs.Needs.{flagMet, CLEAR, EITHER}
-use Rattle.words.specs.Choice.{pick}
 use borrow.Author.Needs.{needs}
+use Rattle.words.specs.Choice.{pick}
+use Rattle.rules.specs.Answers.{when}
+use Rattle.checks.specs.Gate.{past}
+use Rattle.checks.specs.Needs.{flagMet, CLEAR, EITHER}
 use Rattle.checks.proofs.gates.fixed_access.Statement.{statement}
 use Rattle.checks.proofs.gates.fixed_access.Tie as tie
-use Rattle.checks.proofs.gates.fixed_access.Reads as reads
-use Rattle.checks.proofs.gates.fixed_access.Lts as lts
-use Rattle.checks.proofs.gate.go_on.Reads as go-on-reads
-use Rattle.checks.proofs.gates.access_need.Reads as access-need-reads
-use Rattle.checks.proofs.needs.Need.fixed_met.Reads as fixed-met-reads
 
 access-need-requires : tie.Need-access-need-requires
 access-need-requires c κs = search needs

@@ -1,17 +1,13 @@
-use Rattle.checks.specs.Gate.{past}
-use Rattle.rules.specs.Answers.{when}
-use Rattle.checks.specs.Needs.{needsOf, needsTable, kindMet, flagMet}
-use Rattle.words.specs.Choice.{pick, _and_}
+-- `checks::gates::pfix` meets its contract: the instruction's row of the table says what the rule needs, and the
+-- checks stand in the rule's order.
+-- Assumes nothing.
 use borrow.Author.Needs.{needs}
+use Rattle.words.specs.Choice.{pick, _and_}
+use Rattle.rules.specs.Answers.{when}
+use Rattle.checks.specs.Gate.{past}
+use Rattle.checks.specs.Needs.{needsOf, needsTable, kindMet, flagMet}
 use Rattle.checks.proofs.gates.pfix.Statement.{statement}
 use Rattle.checks.proofs.gates.pfix.Tie as tie
-use Rattle.checks.proofs.gates.pfix.Reads as reads
-use Rattle.checks.proofs.gates.pfix.Lts as lts
-use Rattle.checks.proofs.gate.go_on.Reads as go-on-reads
-use Rattle.checks.proofs.needs.Need.fixed_met.Reads as fixed-met-reads
-use Rattle.checks.proofs.needs.Need.kind_met.Reads as kind-met-reads
-use Rattle.checks.proofs.needs.Need.validated_met.Reads as validated-met-reads
-use Rattle.checks.proofs.needs.needs.Reads as needs-reads
 
 needs-requires : tie.Need-needs-requires
 needs-requires c κs = search needs
@@ -39,7 +35,20 @@ go-on-requires-3 c κs = search needs
 
 returns : tie.Need-returns
 unfolding past when needsOf needsTable kindMet flagMet pick _and_
-returns c = λ v. rw (c .go-on3 .ensures v, c .before .kind-met2 .ensures, c .before .before .kind-met .ensures, c .before .before .before .go-on2 .ensures v, c .before .before .before .before .fixed-met .ensures, c .before .before .before .before .before .go-on .ensures v, c .before .before .before .before .before .before .validated-met .ensures, c .before .before .before .before .before .before .before .before .before .needs .ensures)
+returns c =
+    let at-kind-met2 = c .before in let at-kind-met = at-kind-met2 .before in let at-go-on2 = at-kind-met .before in
+    let at-fixed-met = at-go-on2 .before in let at-go-on = at-fixed-met .before in let at-validated-met = at-go-on .before in
+    let at-needs = at-validated-met .before .before .before in
+    λ v. rw (
+      c .go-on3 .ensures v,
+      at-kind-met2 .kind-met2 .ensures,
+      at-kind-met .kind-met .ensures,
+      at-go-on2 .go-on2 .ensures v,
+      at-fixed-met .fixed-met .ensures,
+      at-go-on .go-on .ensures v,
+      at-validated-met .validated-met .ensures,
+      at-needs .needs .ensures,
+    )
 
 pub pfix-spec : {M : Type 1} → statement M
 pfix-spec =

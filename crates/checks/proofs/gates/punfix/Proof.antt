@@ -1,16 +1,13 @@
-use Rattle.checks.specs.Gate.{past}
-use Rattle.rules.specs.Answers.{when}
-use Rattle.checks.specs.Needs.{needsOf, needsTable, kindMet, flagMet}
-use Rattle.words.specs.Choice.{pick, _and_}
+-- `checks::gates::punfix` meets its contract: the instruction's row of the table says what the rule needs, and the
+-- checks stand in the rule's order.
+-- Assumes nothing.
 use borrow.Author.Needs.{needs}
+use Rattle.words.specs.Choice.{pick, _and_}
+use Rattle.rules.specs.Answers.{when}
+use Rattle.checks.specs.Gate.{past}
+use Rattle.checks.specs.Needs.{needsOf, needsTable, kindMet, flagMet}
 use Rattle.checks.proofs.gates.punfix.Statement.{statement}
 use Rattle.checks.proofs.gates.punfix.Tie as tie
-use Rattle.checks.proofs.gates.punfix.Reads as reads
-use Rattle.checks.proofs.gates.punfix.Lts as lts
-use Rattle.checks.proofs.gate.go_on.Reads as go-on-reads
-use Rattle.checks.proofs.needs.Need.fixed_met.Reads as fixed-met-reads
-use Rattle.checks.proofs.needs.Need.kind_met.Reads as kind-met-reads
-use Rattle.checks.proofs.needs.needs.Reads as needs-reads
 
 needs-requires : tie.Need-needs-requires
 needs-requires c κs = search needs
@@ -29,7 +26,16 @@ go-on-requires-2 c κs = search needs
 
 returns : tie.Need-returns
 unfolding past when needsOf needsTable kindMet flagMet pick _and_
-returns c = λ v. rw (c .go-on2 .ensures v, c .before .kind-met .ensures, c .before .before .go-on .ensures v, c .before .before .before .fixed-met .ensures, c .before .before .before .before .before .needs .ensures)
+returns c =
+    let at-kind-met = c .before in let at-go-on = at-kind-met .before in let at-fixed-met = at-go-on .before in
+    let at-needs = at-fixed-met .before .before in
+    λ v. rw (
+      c .go-on2 .ensures v,
+      at-kind-met .kind-met .ensures,
+      at-go-on .go-on .ensures v,
+      at-fixed-met .fixed-met .ensures,
+      at-needs .needs .ensures,
+    )
 
 pub punfix-spec : {M : Type 1} → statement M
 punfix-spec =

@@ -1,15 +1,12 @@
-use Rattle.checks.specs.Gate.{past}
-use Rattle.rules.specs.Access.{unfixedAccess}
-use Rattle.checks.specs.Needs.{flagMet}
-use Rattle.words.specs.Choice.{pick}
+-- `checks::gates::unfixed_access` meets its contract: both rows need VALIDATED set.
+-- Assumes nothing.
 use borrow.Author.Needs.{needs}
+use Rattle.words.specs.Choice.{pick}
+use Rattle.rules.specs.Access.{unfixedAccess}
+use Rattle.checks.specs.Gate.{past}
+use Rattle.checks.specs.Needs.{flagMet}
 use Rattle.checks.proofs.gates.unfixed_access.Statement.{statement}
 use Rattle.checks.proofs.gates.unfixed_access.Tie as tie
-use Rattle.checks.proofs.gates.unfixed_access.Reads as reads
-use Rattle.checks.proofs.gates.unfixed_access.Lts as lts
-use Rattle.checks.proofs.gate.go_on.Reads as go-on-reads
-use Rattle.checks.proofs.gates.access_need.Reads as access-need-reads
-use Rattle.checks.proofs.needs.Need.validated_met.Reads as validated-met-reads
 
 access-need-requires : tie.Need-access-need-requires
 access-need-requires c κs = search needs
@@ -28,7 +25,16 @@ go-on-requires-3 c κs = search needs
 
 returns : tie.Need-returns
 unfolding past unfixedAccess flagMet pick
-returns c = λ v. rw (c .go-on3 .ensures v, c .before .before .go-on2 .ensures v, c .before .before .before .before .go-on .ensures v, c .before .before .before .before .before .validated-met .ensures, c .before .before .before .before .before .before .access-need .ensures)
+returns c =
+    let at-go-on2 = c .before .before in let at-go-on = at-go-on2 .before .before in let at-validated-met = at-go-on .before in
+    let at-access-need = at-validated-met .before in
+    λ v. rw (
+      c .go-on3 .ensures v,
+      at-go-on2 .go-on2 .ensures v,
+      at-go-on .go-on .ensures v,
+      at-validated-met .validated-met .ensures,
+      at-access-need .access-need .ensures,
+    )
 
 pub unfixed-access-spec : {M : Type 1} → statement M
 unfixed-access-spec =

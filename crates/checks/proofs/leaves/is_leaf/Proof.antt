@@ -1,9 +1,9 @@
-use Rattle.rules.specs.Leaves.{isLeaf}
+-- `checks::leaves::is_leaf` meets its contract: a bad entry is no leaf, and a good one is by its type.
+-- Assumes nothing.
 use borrow.Author.Needs.{needs}
+use Rattle.rules.specs.Leaves.{isLeaf}
 use Rattle.checks.proofs.leaves.is_leaf.Statement.{statement}
 use Rattle.checks.proofs.leaves.is_leaf.Tie as tie
-use Rattle.checks.proofs.leaves.is_leaf.Reads as reads
-use Rattle.checks.proofs.leaves.is_leaf.Lts as lts
 
 enum-known-decoded : tie.Need-enum-known-decoded
 enum-known-decoded c = search needs

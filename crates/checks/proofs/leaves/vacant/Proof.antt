@@ -1,10 +1,10 @@
+-- `checks::leaves::vacant` meets its contract: an arm for each word.
+-- Assumes nothing.
+use borrow.Author.Needs.{needs}
 use Rattle.rules.specs.Leaves.{vacant}
 use Rattle.checks.specs.Gate.{past}
-use borrow.Author.Needs.{needs}
 use Rattle.checks.proofs.leaves.vacant.Statement.{statement}
 use Rattle.checks.proofs.leaves.vacant.Tie as tie
-use Rattle.checks.proofs.leaves.vacant.Reads as reads
-use Rattle.checks.proofs.leaves.vacant.Lts as lts
 
 enum-told : tie.Need-enum-told
 enum-told c = search needs

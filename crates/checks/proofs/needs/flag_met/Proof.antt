@@ -1,10 +1,10 @@
-use Rattle.checks.specs.Needs.{flagMet}
-use Rattle.words.specs.Choice.{pick}
+-- `checks::needs::flag_met` meets its contract: each return is a case of the definition.
+-- Assumes nothing.
 use borrow.Author.Tests.{eq-eqb, ne-eqb}
+use Rattle.words.specs.Choice.{pick}
+use Rattle.checks.specs.Needs.{flagMet}
 use Rattle.checks.proofs.needs.flag_met.Statement.{statement}
 use Rattle.checks.proofs.needs.flag_met.Tie as tie
-use Rattle.checks.proofs.needs.flag_met.Reads as reads
-use Rattle.checks.proofs.needs.flag_met.Lts as lts
 
 returns : tie.Need-returns
 unfolding flagMet pick

@@ -1,12 +1,11 @@
-use lib.ListN.{List·getD-eq-default}
+-- `checks::needs::needs` meets its contract: the constant table is the definition's list, and past its end stands its default.
+-- Assumes nothing.
 use mathlib.Core.Path.{refl}
-use Rattle.checks.specs.Needs.{needsOf, needsTable, row, need}
-use borrow.Author.Tests.{lt-ltb, le-ltb}
+use lib.ListN.{List·getD-eq-default}
 use borrow.Author.Needs.{needs}
+use Rattle.checks.specs.Needs.{needsOf, needsTable, row, need}
 use Rattle.checks.proofs.needs.needs.Statement.{statement}
 use Rattle.checks.proofs.needs.needs.Tie as tie
-use Rattle.checks.proofs.needs.needs.Reads as reads
-use Rattle.checks.proofs.needs.needs.Lts as lts
 
 mul-result : tie.Need-mul-result
 mul-result c = search needs

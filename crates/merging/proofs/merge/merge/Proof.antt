@@ -1,17 +1,11 @@
-use Rattle.rules.specs.Merging.{merging}
-use Rattle.rules.specs.Leaves.{leafFrame}
-use Rattle.rules.specs.State.{withEntry, withWord, withZeros}
+-- `merging::merge::merge` meets its contract: the changes that it makes, one after the other, are those of the rule.
+-- Assumes nothing.
 use borrow.Author.Needs.{needs}
+use Rattle.rules.specs.Leaves.{leafFrame}
+use Rattle.rules.specs.Merging.{merging}
+use Rattle.rules.specs.State.{withEntry, withWord, withZeros}
 use Rattle.merging.proofs.merge.merge.Statement.{statement}
 use Rattle.merging.proofs.merge.merge.Tie as tie
-use Rattle.merging.proofs.merge.merge.Reads as reads
-use Rattle.merging.proofs.merge.merge.Lts as lts
-use Rattle.entries.proofs.entry.Entry.zero.Reads as entry-Entry-zero-reads
-use Rattle.entries.proofs.entry.frame_of.Reads as frame-of-reads
-use Rattle.entries.proofs.leaf.present_at.Reads as present-at-reads
-use Rattle.entries.proofs.table.put.Reads as put-reads
-use Rattle.words.proofs.frame.put_word.Reads as put-word-reads
-use Rattle.words.proofs.frame.zero.Reads as frame-zero-reads
 
 frame-of-requires : tie.Need-frame-of-requires
 frame-of-requires c κs = search needs
@@ -39,7 +33,18 @@ same-length-2 c = search needs
 
 returns : tie.Need-returns
 unfolding merging leafFrame withEntry withWord withZeros
-returns c = rw (c .before .before .put .ensures, c .before .before .before .zero2 .ensures, c .before .before .before .before .before .before .before .zero .ensures, c .before .before .before .before .before .before .before .before .before .before .before .put-word .ensures, c .before .before .before .before .before .before .before .before .before .before .before .before .present-at .ensures, c .before .before .before .before .before .before .before .before .before .before .before .before .before .before .frame-of .ensures)
+returns c =
+    let at-put = c .before .before in let at-zero2 = at-put .before in let at-zero = at-zero2 .before .before .before .before in
+    let at-put-word = at-zero .before .before .before .before in let at-present-at = at-put-word .before in
+    let at-frame-of = at-present-at .before .before in
+    rw (
+      at-put .put .ensures,
+      at-zero2 .zero2 .ensures,
+      at-zero .zero .ensures,
+      at-put-word .put-word .ensures,
+      at-present-at .present-at .ensures,
+      at-frame-of .frame-of .ensures,
+    )
 
 pub merge-spec : {M : Type 1} → statement M
 merge-spec =

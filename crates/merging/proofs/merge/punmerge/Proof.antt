@@ -1,26 +1,29 @@
-use Rattle.merging.proofs.MovedLaws.{moved}
-use Rattle.rules.specs.Merging.{punmerge, unmerging}
-use Rattle.rules.specs.Answers.{entered, settle}
-use Rattle.rules.specs.State.{entryAt}
-use Rattle.rules.specs.Leaves.{placed}
-use Rattle.checks.specs.Gate.{past}
+-- `merging::merge::punmerge` meets its contract: the rule is what its checks come to: a refusal, with nothing changed, or what is
+-- then done.
+-- Assumes nothing.
 use borrow.Author.Needs.{needs}
+use Rattle.rules.specs.Answers.{settle}
+use Rattle.checks.specs.Passed.{withPlace}
 use Rattle.merging.proofs.merge.punmerge.Statement.{statement}
 use Rattle.merging.proofs.merge.punmerge.Tie as tie
-use Rattle.merging.proofs.merge.punmerge.Reads as reads
-use Rattle.merging.proofs.merge.punmerge.Lts as lts
-use Rattle.checks.proofs.begin.punmerge.Reads as begin-punmerge-reads
-use Rattle.checks.proofs.gates.punmerge.Reads as gates-punmerge-reads
-use Rattle.checks.proofs.leaves.consulted.Reads as consulted-reads
-use Rattle.entries.proofs.entry.frame_of.Reads as frame-of-reads
-use Rattle.entries.proofs.table.read.Reads as read-reads
-use Rattle.merging.proofs.merge.unmerge.Reads as unmerge-reads
 
-punmerge-requires : tie.Need-punmerge-requires
-punmerge-requires c κs = search needs
+check-unmerge-requires : tie.Need-check-unmerge-requires
+check-unmerge-requires c κs = search needs
 
-enum-known-begun : tie.Need-enum-known-begun
-enum-known-begun c = search needs
+enum-known-refusal : tie.Need-enum-known-refusal
+enum-known-refusal c = search needs
+
+enum-known-one : tie.Need-enum-known-one
+enum-known-one c = search needs
+
+frame-of-requires : tie.Need-frame-of-requires
+frame-of-requires c κs = search needs
+
+frame-of-requires-2 : tie.Need-frame-of-requires-2
+frame-of-requires-2 c κs = search needs
+
+unmerge-requires : tie.Need-unmerge-requires
+unmerge-requires c κs = search needs
 
 same-length : tie.Need-same-length
 same-length c = search needs
@@ -29,23 +32,8 @@ same-length-2 : tie.Need-same-length-2
 same-length-2 c = search needs
 
 returns : tie.Need-returns
-unfolding punmerge entered entryAt placed settle past unmerging
-returns c = rw (← c .before .before .before .punmerge .ensures, c .before .begun .given .1)
-
-enum-told : tie.Need-enum-told
-enum-told c = search needs
-
-frame-of-requires : tie.Need-frame-of-requires
-frame-of-requires c κs = search needs
-
-read-requires : tie.Need-read-requires
-read-requires c κs = search needs
-
-enum-known-one : tie.Need-enum-known-one
-enum-known-one c = search needs
-
-enum-told-2 : tie.Need-enum-told-2
-enum-told-2 c = search needs
+unfolding withPlace settle
+returns c = rw (c .before .before .before .check-unmerge .ensures, c .before .refusal .given .1)
 
 same-length-3 : tie.Need-same-length-3
 same-length-3 c = search needs
@@ -54,136 +42,32 @@ same-length-4 : tie.Need-same-length-4
 same-length-4 c = search needs
 
 returns-2 : tie.Need-returns-2
-unfolding punmerge entered entryAt placed settle past unmerging
-returns-2 c = rw (← c .before .before .before .before .before .before .before .punmerge .ensures, c .before .before .before .before .before .enum-told .given .1, ← c .before .before .before .before .frame-of .ensures, ← c .before .before .read .ensures, c .enum-told2 .given .1)
-
-frame-of-requires-2 : tie.Need-frame-of-requires-2
-frame-of-requires-2 c κs = search needs
-
-read-requires-2 : tie.Need-read-requires-2
-read-requires-2 c κs = search needs
-
-enum-known-two : tie.Need-enum-known-two
-enum-known-two c = search needs
-
-enum-told-3 : tie.Need-enum-told-3
-enum-told-3 c = search needs
-
-same-length-5 : tie.Need-same-length-5
-same-length-5 c = search needs
-
-same-length-6 : tie.Need-same-length-6
-same-length-6 c = search needs
-
-returns-3 : tie.Need-returns-3
-unfolding punmerge entered entryAt placed settle past unmerging
-returns-3 c = rw (← c .before .before .before .before .before .before .before .before .before .before .before .before .before .punmerge .ensures, c .before .before .before .before .before .before .before .before .before .before .before .enum-told .given .1, ← c .before .before .before .before .before .before .before .before .before .before .frame-of .ensures, ← c .before .before .before .before .before .before .before .before .read .ensures, c .before .before .before .before .before .before .one .given .1, ← c .before .before .before .before .frame-of2 .ensures, ← c .before .before .read2 .ensures, c .enum-told3 .given .1)
-
-punmerge-requires-2 : tie.Need-punmerge-requires-2
-punmerge-requires-2 c κs = search needs
-
-enum-known-met : tie.Need-enum-known-met
-enum-known-met c = search needs
-
-same-length-7 : tie.Need-same-length-7
-same-length-7 c = search needs
-
-same-length-8 : tie.Need-same-length-8
-same-length-8 c = search needs
-
-returns-4 : tie.Need-returns-4
-unfolding punmerge entered entryAt placed settle past unmerging
-returns-4 c = rw (← c .before .before .before .before .before .before .before .before .before .before .before .before .before .before .before .before .before .before .punmerge .ensures, c .before .before .before .before .before .before .before .before .before .before .before .before .before .before .before .before .enum-told .given .1, ← c .before .before .before .before .before .before .before .before .before .before .before .before .before .before .before .frame-of .ensures, ← c .before .before .before .before .before .before .before .before .before .before .before .before .before .read .ensures, c .before .before .before .before .before .before .before .before .before .before .before .one .given .1, ← c .before .before .before .before .before .before .before .before .before .frame-of2 .ensures, ← c .before .before .before .before .before .before .before .read2 .ensures, c .before .before .before .before .before .two .given .1, ← c .before .before .before .punmerge2 .ensures, c .before .met .given .1)
-
-enum-told-4 : tie.Need-enum-told-4
-enum-told-4 c = search needs
-
-consulted-requires : tie.Need-consulted-requires
-consulted-requires c κs = search needs
-
-enum-told-5 : tie.Need-enum-told-5
-enum-told-5 c = search needs
-
-same-length-9 : tie.Need-same-length-9
-same-length-9 c = search needs
-
-same-length-10 : tie.Need-same-length-10
-same-length-10 c = search needs
-
-returns-5 : tie.Need-returns-5
-unfolding punmerge entered entryAt placed settle past unmerging
-returns-5 c = rw (← c .before .before .before .before .before .before .before .before .before .before .before .before .before .before .before .before .before .before .before .before .before .before .punmerge .ensures, c .before .before .before .before .before .before .before .before .before .before .before .before .before .before .before .before .before .before .before .before .enum-told .given .1, ← c .before .before .before .before .before .before .before .before .before .before .before .before .before .before .before .before .before .before .before .frame-of .ensures, ← c .before .before .before .before .before .before .before .before .before .before .before .before .before .before .before .before .before .read .ensures, c .before .before .before .before .before .before .before .before .before .before .before .before .before .before .before .one .given .1, ← c .before .before .before .before .before .before .before .before .before .before .before .before .before .frame-of2 .ensures, ← c .before .before .before .before .before .before .before .before .before .before .before .read2 .ensures, c .before .before .before .before .before .before .before .before .before .two .given .1, ← c .before .before .before .before .before .before .before .punmerge2 .ensures, c .before .before .before .before .before .enum-told4 .given .1, ← c .before .before .consulted .ensures, c .enum-told5 .given .1)
-
-enum-told-6 : tie.Need-enum-told-6
-enum-told-6 c = search needs
-
-same-length-11 : tie.Need-same-length-11
-same-length-11 c = search needs
-
-same-length-12 : tie.Need-same-length-12
-same-length-12 c = search needs
-
-returns-6 : tie.Need-returns-6
-unfolding punmerge entered entryAt placed settle past unmerging
-returns-6 c = rw (← c .before .before .before .before .before .before .before .before .before .before .before .before .before .before .before .before .before .before .before .before .before .before .punmerge .ensures, c .before .before .before .before .before .before .before .before .before .before .before .before .before .before .before .before .before .before .before .before .enum-told .given .1, ← c .before .before .before .before .before .before .before .before .before .before .before .before .before .before .before .before .before .before .before .frame-of .ensures, ← c .before .before .before .before .before .before .before .before .before .before .before .before .before .before .before .before .before .read .ensures, c .before .before .before .before .before .before .before .before .before .before .before .before .before .before .before .one .given .1, ← c .before .before .before .before .before .before .before .before .before .before .before .before .before .frame-of2 .ensures, ← c .before .before .before .before .before .before .before .before .before .before .before .read2 .ensures, c .before .before .before .before .before .before .before .before .before .two .given .1, ← c .before .before .before .before .before .before .before .punmerge2 .ensures, c .before .before .before .before .before .enum-told4 .given .1, ← c .before .before .consulted .ensures, c .enum-told6 .given .1)
-
-enum-known-word : tie.Need-enum-known-word
-enum-known-word c = search needs
-
-unmerge-requires : tie.Need-unmerge-requires
-unmerge-requires c κs = search needs
-
-same-length-13 : tie.Need-same-length-13
-same-length-13 c = search needs
-
-same-length-14 : tie.Need-same-length-14
-same-length-14 c = search needs
-
-returns-7 : tie.Need-returns-7
-unfolding punmerge entered entryAt placed settle past unmerging
-returns-7 c = rw (← c .before .before .before .before .before .before .before .before .before .before .before .before .before .before .before .before .before .before .before .before .before .before .before .before .before .before .before .before .before .before .punmerge .ensures, c .before .before .before .before .before .before .before .before .before .before .before .before .before .before .before .before .before .before .before .before .before .before .before .before .before .before .before .before .enum-told .given .1, ← c .before .before .before .before .before .before .before .before .before .before .before .before .before .before .before .before .before .before .before .before .before .before .before .before .before .before .before .frame-of .ensures, ← c .before .before .before .before .before .before .before .before .before .before .before .before .before .before .before .before .before .before .before .before .before .before .before .before .before .read .ensures, c .before .before .before .before .before .before .before .before .before .before .before .before .before .before .before .before .before .before .before .before .before .before .before .one .given .1, ← c .before .before .before .before .before .before .before .before .before .before .before .before .before .before .before .before .before .before .before .before .before .frame-of2 .ensures, ← c .before .before .before .before .before .before .before .before .before .before .before .before .before .before .before .before .before .before .before .read2 .ensures, c .before .before .before .before .before .before .before .before .before .before .before .before .before .before .before .before .before .two .given .1, ← c .before .before .before .before .before .before .before .before .before .before .before .before .before .before .before .punmerge2 .ensures, c .before .before .before .before .before .before .before .before .before .before .before .before .before .enum-told4 .given .1, ← c .before .before .before .before .before .before .before .before .before .before .consulted .ensures, c .before .before .before .before .before .before .before .before .word .given .1, ← moved _ _ _ _ _ _ (c .before .before .before .before .before .before .before .before .before .before .before .before .before .before .before .before .before .before .before .before .before .before .before .before .before .read .ensures) (c .before .before .before .before .before .before .before .before .before .before .before .before .before .before .before .before .before .before .before .before .before .before .before .one .given .1) (c .before .before .before .before .before .before .before .before .before .before .before .before .before .before .before .punmerge2 .ensures) (c .before .before .before .before .before .before .before .before .before .before .before .before .before .enum-told4 .given .1), c .before .before .before .before .unmerge .ensures)
+unfolding withPlace settle
+returns-2 c =
+    let at-unmerge = c .before .before .before .before in let at-frame-of2 = at-unmerge .before in
+    let at-frame-of = at-frame-of2 .before in let at-one = at-frame-of .before .before .before .before in
+    let at-check-unmerge = at-one .before .before in
+    rw (
+      at-check-unmerge .check-unmerge .ensures,
+      at-one .one .given .1,
+      ← at-frame-of .frame-of .ensures,
+      ← at-frame-of2 .frame-of2 .ensures,
+      ← at-unmerge .unmerge .ensures,
+    )
 
 pub punmerge-spec : {M : Type 1} → statement M
 punmerge-spec =
     tie.close
     (tie.spec
-    punmerge-requires
-    enum-known-begun
+    check-unmerge-requires
+    enum-known-refusal
+    enum-known-one
+    frame-of-requires
+    frame-of-requires-2
+    unmerge-requires
     same-length
     same-length-2
     returns
-    enum-told
-    frame-of-requires
-    read-requires
-    enum-known-one
-    enum-told-2
     same-length-3
     same-length-4
-    returns-2
-    frame-of-requires-2
-    read-requires-2
-    enum-known-two
-    enum-told-3
-    same-length-5
-    same-length-6
-    returns-3
-    punmerge-requires-2
-    enum-known-met
-    same-length-7
-    same-length-8
-    returns-4
-    enum-told-4
-    consulted-requires
-    enum-told-5
-    same-length-9
-    same-length-10
-    returns-5
-    enum-told-6
-    same-length-11
-    same-length-12
-    returns-6
-    enum-known-word
-    unmerge-requires
-    same-length-13
-    same-length-14
-    returns-7)
+    returns-2)

@@ -1,15 +1,11 @@
+-- `merging::merge::unmerge` meets its contract: the changes that it makes, one after the other, are those of the rule.
+-- Assumes nothing.
+use borrow.Author.Needs.{needs}
 use Rattle.rules.specs.Leaves.{leafFrame}
 use Rattle.rules.specs.State.{withEntry, withWord, withCopy}
-use borrow.Author.Needs.{needs}
+use Rattle.merging.specs.Moved.{moving}
 use Rattle.merging.proofs.merge.unmerge.Statement.{statement}
 use Rattle.merging.proofs.merge.unmerge.Tie as tie
-use Rattle.merging.proofs.merge.unmerge.Reads as reads
-use Rattle.merging.proofs.merge.unmerge.Lts as lts
-use Rattle.entries.proofs.entry.Entry.to_moved.Reads as to-moved-reads
-use Rattle.entries.proofs.entry.frame_of.Reads as frame-of-reads
-use Rattle.entries.proofs.table.put.Reads as put-reads
-use Rattle.words.proofs.frame.copy.Reads as copy-reads
-use Rattle.words.proofs.frame.put_word.Reads as put-word-reads
 
 copy-requires : tie.Need-copy-requires
 copy-requires c κs = search needs
@@ -33,8 +29,18 @@ same-length-2 : tie.Need-same-length-2
 same-length-2 c = search needs
 
 returns : tie.Need-returns
-unfolding leafFrame withEntry withWord withCopy
-returns c = rw (c .before .before .put-word .ensures, c .before .before .before .frame-of .ensures, c .before .before .before .before .before .before .before .put .ensures, c .before .before .before .before .before .before .before .before .to-moved .ensures, c .before .before .before .before .before .before .before .before .before .before .before .before .copy .ensures)
+unfolding moving leafFrame withEntry withWord withCopy
+returns c =
+    let at-put-word = c .before .before in let at-frame-of = at-put-word .before in
+    let at-put = at-frame-of .before .before .before .before in let at-to-moved = at-put .before in
+    let at-copy = at-to-moved .before .before .before .before in
+    rw (
+      at-put-word .put-word .ensures,
+      at-frame-of .frame-of .ensures,
+      at-put .put .ensures,
+      at-to-moved .to-moved .ensures,
+      at-copy .copy .ensures,
+    )
 
 pub unmerge-spec : {M : Type 1} → statement M
 unmerge-spec =

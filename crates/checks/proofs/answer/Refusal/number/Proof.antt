@@ -1,8 +1,8 @@
+-- `checks::answer::Refusal::number` meets its contract: an arm for each refusal.
+-- Assumes nothing.
 use borrow.Author.Needs.{needs}
 use Rattle.checks.proofs.answer.Refusal.number.Statement.{statement}
 use Rattle.checks.proofs.answer.Refusal.number.Tie as tie
-use Rattle.checks.proofs.answer.Refusal.number.Reads as reads
-use Rattle.checks.proofs.answer.Refusal.number.Lts as lts
 
 enum-told : tie.Need-enum-told
 enum-told c = search needs

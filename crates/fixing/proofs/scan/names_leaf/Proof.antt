@@ -1,10 +1,10 @@
-use Rattle.rules.specs.Leaves.{namesLeaf}
-use Rattle.words.specs.Choice.{_and_}
+-- `fixing::scan::names_leaf` meets its contract: each return is a case of the definition.
+-- Assumes nothing.
 use borrow.Author.Needs.{needs}
-use Rattle.merging.proofs.scan.names_leaf.Statement.{statement}
-use Rattle.merging.proofs.scan.names_leaf.Tie as tie
-use Rattle.merging.proofs.scan.names_leaf.Reads as reads
-use Rattle.merging.proofs.scan.names_leaf.Lts as lts
+use Rattle.words.specs.Choice.{_and_}
+use Rattle.rules.specs.Leaves.{namesLeaf}
+use Rattle.fixing.proofs.scan.names_leaf.Statement.{statement}
+use Rattle.fixing.proofs.scan.names_leaf.Tie as tie
 
 enum-known-decoded : tie.Need-enum-known-decoded
 enum-known-decoded c = search needs

@@ -1,25 +1,20 @@
 // PFIX and PUNFIX: a page gets a leaf, and gives it back.
 ghost use mathlib.Core.Path.{_≡_};
-ghost use mathlib.Core.List.{List};
-ghost use Prim.Native.Nat.{ℕ};
-ghost use lib.Dec.{eqb};
-ghost use Rattle.words.specs.Choice.{_and_};
-ghost use Rattle.entries.specs.Entry.{MERGEABLE, LEAF};
-ghost use Rattle.rules.specs.Answers.{Verdict, unless, when};
-ghost use Rattle.rules.specs.Leaves.{leafInUse};
-ghost use Rattle.rules.specs.Merging.{pfix, fixing, punfix, unfixing};
-ghost use Rattle.rules.specs.Refusals.{TYPE, NOT-VALIDATED, FIXED, LEAF-IN-USE};
-ghost use Rattle.rules.specs.State.{state, N};
+ghost use Rattle.entries.specs.Entry.{frameOf};
+ghost use Rattle.rules.specs.Answers.{done, grant, settle};
+ghost use Rattle.rules.specs.Merging.{fixing, pfix, unfixing, punfix};
+ghost use Rattle.rules.specs.State.{state};
 ghost use Rattle.checks.specs.Answer.{gave};
-ghost use Rattle.checks.specs.Gate.{past};
+ghost use Rattle.checks.specs.Passed.{withPage, withPlace};
 use crate::scan;
 use checks::answer::Answer;
 use checks::answer::Refusal;
 use checks::begin;
 use checks::gate::Gate;
-use checks::gate::go_on;
 use checks::gates;
 use checks::leaves;
+use checks::passed::Page;
+use checks::passed::Place;
 use entries::entry::Decoded;
 use entries::entry::Entry;
 use entries::entry::frame_of;
@@ -33,45 +28,42 @@ pub fn pfix(table: &mut [u64], memory: &mut [u64], caller: u64, hpa: u64, leaf: 
     ensures { λ r. ⌜ gave r (now (table .exit)) (now (memory .exit))
         ≡ pfix (state (now (table .entry)) (now (memory .entry))) caller hpa leaf ⌝ }
 {
+    match check_fix(table, memory, caller, hpa, leaf) {
+        Page::Refused(refusal) => Answer::Refused(refusal),
+        Page::Good(old) => {
+            fix(table, memory, frame_of(hpa), old, leaf);
+            Answer::Done
+        }
+    }
+}
+
+// The table is looked through only where all else has passed.
+fn check_fix(table: &[u64], memory: &[u64], caller: u64, hpa: u64, leaf: u64) -> Page
+    ensures { λ r. ⌜ pfix (state (now (table .entry)) (now (memory .entry))) caller hpa leaf
+        ≡ settle (state (now (table .entry)) (now (memory .entry))) (withPage r λ old.
+        grant done (fixing (state (now (table .entry)) (now (memory .entry))) (frameOf hpa) old leaf)) ⌝ }
+{
     let begun = begin::two_frames(table, memory, caller, hpa, leaf);
     if let Gate::Shut(refusal) = begun {
-        return Answer::Refused(refusal);
+        return Page::Refused(refusal);
     }
-    let frame = frame_of(hpa);
-    let Decoded::Good(old) = table::read(table, frame) else {
-        return Answer::Refused(Refusal::BadEntry);
+    let Decoded::Good(old) = table::read(table, frame_of(hpa)) else {
+        return Page::Refused(Refusal::BadEntry);
     };
     let Decoded::Good(leaf_entry) = table::read(table, frame_of(leaf)) else {
-        return Answer::Refused(Refusal::BadEntry);
+        return Page::Refused(Refusal::BadEntry);
     };
-    let met = may_fix(table, old, leaf_entry, leaf);
+    let met = gates::pfix(old, leaf_entry);
     if let Gate::Shut(refusal) = met {
-        return Answer::Refused(refusal);
+        return Page::Refused(refusal);
     }
-    fix(table, memory, frame, old, leaf);
-    Answer::Done
+    let used = scan::leaf_in_use(table, leaf);
+    if used {
+        return Page::Refused(Refusal::LeafInUse);
+    }
+    Page::Good(old)
 }
 
-// PFIX's 6, 10, 9 and 15. The table is looked through only where all else has passed.
-fn may_fix(table: &[u64], one: Entry, two: Entry, leaf: u64) -> Gate
-    ensures { λ g. ⌜ ((memory : List ℕ) (v : Verdict) → past g v
-        ≡ unless (eqb (one .kind) MERGEABLE and eqb (two .kind) LEAF) TYPE
-        (when (one .fixed) FIXED
-        (unless (one .validated) NOT-VALIDATED
-        (when (leafInUse (state (now (table .entry)) memory) leaf (N (state (now (table .entry)) memory))) LEAF-IN-USE v)))) ⌝ }
-{
-    let met = gates::pfix(one, two);
-    if let Gate::Shut(refusal) = met {
-        return Gate::Shut(refusal);
-    }
-    go_on(
-        !scan::leaf_in_use(table, leaf),
-        Refusal::LeafInUse,
-        Gate::Open,
-    )
-}
-
-// What an accepted PFIX does.
 fn fix(table: &mut [u64], memory: &mut [u64], frame: usize, old: Entry, leaf: u64)
     ensures { λ _. ⌜ state (now (table .exit)) (now (memory .exit))
         ≡ fixing (state (now (table .entry)) (now (memory .entry))) frame old leaf ⌝ }
@@ -92,33 +84,43 @@ pub fn punfix(table: &mut [u64], memory: &mut [u64], caller: u64, hpa: u64) -> A
     ensures { λ r. ⌜ gave r (now (table .exit)) (now (memory .exit))
         ≡ punfix (state (now (table .entry)) (now (memory .entry))) caller hpa ⌝ }
 {
+    match check_unfix(table, memory, caller, hpa) {
+        Place::Refused(refusal) => Answer::Refused(refusal),
+        Place::Good(old, gpa) => {
+            unfix(table, memory, frame_of(hpa), old, gpa);
+            Answer::Done
+        }
+    }
+}
+
+fn check_unfix(table: &[u64], memory: &[u64], caller: u64, hpa: u64) -> Place
+    ensures { λ r. ⌜ punfix (state (now (table .entry)) (now (memory .entry))) caller hpa
+        ≡ settle (state (now (table .entry)) (now (memory .entry))) (withPlace r λ old gpa.
+        grant done (unfixing (state (now (table .entry)) (now (memory .entry))) (frameOf hpa) old gpa)) ⌝ }
+{
     let begun = begin::punfix(table, memory, caller, hpa);
     if let Gate::Shut(refusal) = begun {
-        return Answer::Refused(refusal);
+        return Place::Refused(refusal);
     }
-    let frame = frame_of(hpa);
-    let Decoded::Good(old) = table::read(table, frame) else {
-        return Answer::Refused(Refusal::BadEntry);
+    let Decoded::Good(old) = table::read(table, frame_of(hpa)) else {
+        return Place::Refused(Refusal::BadEntry);
     };
     let met = gates::punfix(old);
     if let Gate::Shut(refusal) = met {
-        return Answer::Refused(refusal);
+        return Place::Refused(refusal);
     }
-    let word = leaves::consulted(table, memory, old, old.asid);
-    let gpa = match word {
-        LeafWord::Misshapen => return Answer::Refused(Refusal::BrokenLeaf),
-        LeafWord::Absent => return Answer::Refused(Refusal::NoPlace),
+    let gpa = match leaves::consulted(table, memory, old, old.asid) {
+        LeafWord::Misshapen => return Place::Refused(Refusal::BrokenLeaf),
+        LeafWord::Absent => return Place::Refused(Refusal::NoPlace),
         LeafWord::Present(gpa) => gpa,
     };
     let shared = scan::still_shared(memory, frame_of(old.address), old.asid);
     if shared {
-        return Answer::Refused(Refusal::StillShared);
+        return Place::Refused(Refusal::StillShared);
     }
-    unfix(table, memory, frame, old, gpa);
-    Answer::Done
+    Place::Good(old, gpa)
 }
 
-// What an accepted PUNFIX does.
 fn unfix(table: &mut [u64], memory: &mut [u64], frame: usize, old: Entry, gpa: u64)
     ensures { λ _. ⌜ state (now (table .exit)) (now (memory .exit))
         ≡ unfixing (state (now (table .entry)) (now (memory .entry))) frame old gpa ⌝ }

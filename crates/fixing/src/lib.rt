@@ -1,0 +1,3 @@
+// PFIX and PUNFIX: a page gets a leaf, so that pages of other guests can be merged into it, and gives the leaf back.
+pub mod fix;
+pub mod scan;

@@ -1,0 +1,2 @@
+-- What PUNMERGE does, as the code does it.
+pub mod Moved
