@@ -27,7 +27,8 @@ pub fn read(
     if let Gate::Shut(refusal) = checked {
         return Answer::Refused(refusal);
     }
-    Answer::Word(frame::word(memory, frame_of(hpa), index as usize))
+    let word = frame::word(memory, frame_of(hpa), index as usize);
+    Answer::Word(word)
 }
 
 // `caller` writes a word of its page at `gpa`, in the frame at `hpa`.

@@ -1,12 +1,11 @@
-// PMERGE and PUNMERGE: a guest's page moves into a fixed one of the same contents, and out of it again.
+// PMERGE: a guest's page moves into a fixed one of the same contents.
 ghost use mathlib.Core.Path.{_≡_};
 ghost use Rattle.entries.specs.Entry.{frameOf};
 ghost use Rattle.rules.specs.Answers.{done, grant, settle};
-ghost use Rattle.rules.specs.Merging.{merging, pmerge, punmerge};
+ghost use Rattle.rules.specs.Merging.{merging, pmerge};
 ghost use Rattle.rules.specs.State.{state};
 ghost use Rattle.checks.specs.Answer.{gave};
-ghost use Rattle.checks.specs.Passed.{withPages, withPlace};
-ghost use Rattle.merging.specs.Moved.{moving};
+ghost use Rattle.checks.specs.Passed.{withPages};
 use checks::answer::Answer;
 use checks::answer::Refusal;
 use checks::begin;
@@ -14,11 +13,9 @@ use checks::gate::Gate;
 use checks::gates;
 use checks::leaves;
 use checks::passed::Pages;
-use checks::passed::Place;
 use entries::entry::Decoded;
 use entries::entry::Entry;
 use entries::entry::frame_of;
-use entries::leaf::LeafWord;
 use entries::leaf::present_at;
 use entries::table;
 use words::frame;
@@ -77,85 +74,6 @@ fn merge(table: &mut [u64], memory: &mut [u64], one: Entry, frame2: usize, two: 
     let leaf = frame_of(one.address);
     frame::put_word(memory, leaf, two.asid as usize, present_at(two.address));
     frame::zero(memory, frame2);
-    table::put(table, frame2, Entry::zero());
-}
-
-// The guest `asid` moves out of the fixed page at `hpa1` into the SHARED frame at `hpa2`.
-pub fn punmerge(
-    table: &mut [u64],
-    memory: &mut [u64],
-    caller: u64,
-    hpa1: u64,
-    hpa2: u64,
-    asid: u64,
-) -> Answer
-    ensures { λ r. ⌜ gave r (now (table .exit)) (now (memory .exit))
-        ≡ punmerge (state (now (table .entry)) (now (memory .entry))) caller hpa1 hpa2 asid ⌝ }
-{
-    match check_unmerge(table, memory, caller, hpa1, hpa2, asid) {
-        Place::Refused(refusal) => Answer::Refused(refusal),
-        Place::Good(one, gpa) => {
-            unmerge(
-                table,
-                memory,
-                frame_of(hpa1),
-                one,
-                frame_of(hpa2),
-                asid,
-                gpa,
-            );
-            Answer::Done
-        }
-    }
-}
-
-fn check_unmerge(
-    table: &[u64],
-    memory: &[u64],
-    caller: u64,
-    hpa1: u64,
-    hpa2: u64,
-    asid: u64,
-) -> Place
-    ensures { λ r. ⌜ punmerge (state (now (table .entry)) (now (memory .entry))) caller hpa1 hpa2 asid
-        ≡ settle (state (now (table .entry)) (now (memory .entry))) (withPlace r λ one gpa.
-        grant done (moving (state (now (table .entry)) (now (memory .entry))) (frameOf hpa1) one (frameOf hpa2) asid gpa)) ⌝ }
-{
-    let begun = begin::punmerge(table, memory, caller, hpa1, hpa2, asid);
-    if let Gate::Shut(refusal) = begun {
-        return Place::Refused(refusal);
-    }
-    let Decoded::Good(one) = table::read(table, frame_of(hpa1)) else {
-        return Place::Refused(Refusal::BadEntry);
-    };
-    let Decoded::Good(two) = table::read(table, frame_of(hpa2)) else {
-        return Place::Refused(Refusal::BadEntry);
-    };
-    let met = gates::punmerge(one, two);
-    if let Gate::Shut(refusal) = met {
-        return Place::Refused(refusal);
-    }
-    match leaves::consulted(table, memory, one, asid) {
-        LeafWord::Misshapen => Place::Refused(Refusal::BrokenLeaf),
-        LeafWord::Absent => Place::Refused(Refusal::NoPlace),
-        LeafWord::Present(gpa) => Place::Good(one, gpa),
-    }
-}
-
-// Entry 2 is entry 1, moved.
-fn unmerge(
-    table: &mut [u64],
-    memory: &mut [u64],
-    frame1: usize,
-    one: Entry,
-    frame2: usize,
-    asid: u64,
-    gpa: u64,
-)
-    ensures { λ _. ⌜ state (now (table .exit)) (now (memory .exit))
-        ≡ moving (state (now (table .entry)) (now (memory .entry))) frame1 one frame2 asid gpa ⌝ }
-{
-    frame::copy(memory, frame1, frame2);
-    table::put(table, frame2, one.to_moved(asid, gpa));
-    frame::put_word(memory, frame_of(one.address), asid as usize, 0);
+    let freed = Entry::zero();
+    table::put(table, frame2, freed);
 }

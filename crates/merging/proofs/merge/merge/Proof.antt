@@ -34,7 +34,7 @@ same-length-2 c = search needs
 returns : tie.Need-returns
 unfolding merging leafFrame withEntry withWord withZeros
 returns c =
-    let at-put = c .before .before in let at-zero2 = at-put .before in let at-zero = at-zero2 .before .before .before .before in
+    let at-put = c .before .before in let at-zero2 = at-put .before .before in let at-zero = at-zero2 .before .before .before in
     let at-put-word = at-zero .before .before .before .before in let at-present-at = at-put-word .before in
     let at-frame-of = at-present-at .before .before in
     rw (

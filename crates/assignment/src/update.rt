@@ -1,0 +1,115 @@
+// RMPUPDATE: the host gives a frame to a guest, or takes it back.
+ghost use mathlib.Core.Path.{_≡_};
+ghost use Rattle.words.specs.Choice.{pick};
+ghost use Rattle.words.specs.Frame.{zeroFrame};
+ghost use Rattle.entries.specs.Entry.{frameOf};
+ghost use Rattle.rules.specs.Answers.{grant, settle};
+ghost use Rattle.rules.specs.Assignment.{assigning, updateAnswer, rmpupdate};
+ghost use Rattle.rules.specs.State.{state};
+ghost use Rattle.checks.specs.Answer.{told, gave};
+ghost use Rattle.checks.specs.Passed.{withPage};
+use checks::answer::Answer;
+use checks::answer::Refusal;
+use checks::begin;
+use checks::gate::Gate;
+use checks::gates;
+use checks::passed::Page;
+use entries::entry::Decoded;
+use entries::entry::Entry;
+use entries::entry::frame_of;
+use entries::table;
+use words::frame;
+
+// The host gives the frame at `hpa` to the guest `asid` at its address `gpa`, as a page of the type `kind`, or takes it back.
+pub fn rmpupdate(
+    table: &mut [u64],
+    memory: &mut [u64],
+    caller: u64,
+    hpa: u64,
+    gpa: u64,
+    asid: u64,
+    kind: u64,
+) -> Answer
+    ensures { λ r. ⌜ gave r (now (table .exit)) (now (memory .exit))
+        ≡ rmpupdate (state (now (table .entry)) (now (memory .entry))) caller hpa gpa asid kind ⌝ }
+{
+    match check_update(table, memory, caller, hpa, gpa, asid, kind) {
+        Page::Refused(refusal) => Answer::Refused(refusal),
+        Page::Good(old) => {
+            assign(table, memory, frame_of(hpa), old, gpa, asid, kind);
+            update_answer(old)
+        }
+    }
+}
+
+fn check_update(
+    table: &[u64],
+    memory: &[u64],
+    caller: u64,
+    hpa: u64,
+    gpa: u64,
+    asid: u64,
+    kind: u64,
+) -> Page
+    ensures { λ r. ⌜ rmpupdate (state (now (table .entry)) (now (memory .entry))) caller hpa gpa asid kind
+        ≡ settle (state (now (table .entry)) (now (memory .entry))) (withPage r λ old.
+        grant (updateAnswer old) (assigning (state (now (table .entry)) (now (memory .entry))) (frameOf hpa) old gpa asid kind)) ⌝ }
+{
+    let begun = begin::rmpupdate(table, memory, caller, hpa, gpa, asid, kind);
+    if let Gate::Shut(refusal) = begun {
+        return Page::Refused(refusal);
+    }
+    let Decoded::Good(old) = table::read(table, frame_of(hpa)) else {
+        return Page::Refused(Refusal::BadEntry);
+    };
+    let met = gates::rmpupdate(old);
+    if let Gate::Shut(refusal) = met {
+        return Page::Refused(refusal);
+    }
+    Page::Good(old)
+}
+
+fn assign(
+    table: &mut [u64],
+    memory: &mut [u64],
+    frame: usize,
+    old: Entry,
+    gpa: u64,
+    asid: u64,
+    kind: u64,
+)
+    ensures { λ _. ⌜ state (now (table .exit)) (now (memory .exit))
+        ≡ assigning (state (now (table .entry)) (now (memory .entry))) frame old gpa asid kind ⌝ }
+{
+    zero_unless(memory, frame, asid == old.asid);
+    let new = Entry {
+        asid,
+        kind,
+        validated: false,
+        fixed: false,
+        address: gpa,
+    };
+    table::put(table, frame, new);
+}
+
+// The frame is zeroed, unless its owner stays.
+fn zero_unless(memory: &mut [u64], frame: usize, stays: bool)
+    ensures { λ _. ⌜ now (memory .exit) ≡ pick stays (now (memory .entry)) (zeroFrame (now (memory .entry)) frame) ⌝ }
+{
+    if stays {
+        return;
+    }
+    frame::zero(memory, frame);
+}
+
+fn update_answer(old: Entry) -> Answer
+    ensures { λ r. ⌜ told r ≡ updateAnswer old ⌝ }
+{
+    if old.validated {
+        return Answer::Closed {
+            asid: old.asid,
+            gpa: old.address,
+        };
+    }
+    Answer::None
+}
