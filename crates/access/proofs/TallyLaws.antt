@@ -16,13 +16,13 @@ use Rattle.access.specs.declared.census.Holding.{Holding}
 use Rattle.access.specs.declared.census.Tally.{Tally}
 use Rattle.access.specs.declared.census.Tally.the-variants.{Total, Stopped}
 
-pub tally-next :
+tally-next :
     (s : State) (guest frame places : ℕ) → tally s guest frame ≡ total places
     → tally s guest (frame + 1) ≡ counted (total places) (holding s guest frame)
 unfolding tally
 tally-next s guest frame places h = rw (add-one, h)
 
-pub tally-stays :
+tally-stays :
     (s : State) (guest frame number n : ℕ) → tally s guest frame ≡ stopped number → frame ≤ n → tally s guest n ≡ stopped number
 unfolding tally counted
 tally-stays s guest frame number zero h below = let z : frame ≡ 0 = omega arith in rw z at h
@@ -33,7 +33,7 @@ tally-stays s guest frame number (suc n) h below =
     ]
 
 -- a frame adds one place at most
-pub at-most-one : (places more : ℕ) (here : rules.Holding) → counted (total places) here ≡ total more → more ≤ places + 1
+at-most-one : (places more : ℕ) (here : rules.Holding) → counted (total places) here ≡ total more → more ≤ places + 1
 unfolding counted
 at-most-one places more (holds gpa) e = let h : places + 1 ≡ more = cc in omega arith
 at-most-one places more nothing e = let h : places ≡ more = cc in omega arith

@@ -16,7 +16,7 @@ use entries::leaf::LeafWord;
 use entries::table;
 
 // What a frame is to a guest: its place at an address, no place of it, or what a census refuses with.
-pub enum Holding {
+enum Holding {
     Holds(u64),
     Nothing,
     Fails(Refusal),
@@ -32,7 +32,7 @@ fn in_leaf(word: LeafWord) -> Holding
     }
 }
 
-pub fn holding_at(table: &[u64], memory: &[u64], guest: u64, frame: usize) -> Holding
+fn holding_at(table: &[u64], memory: &[u64], guest: u64, frame: usize) -> Holding
     ensures { λ r. ⌜ held r ≡ holding (state (now (table .entry)) (now (memory .entry))) guest frame ⌝ }
 {
     let Decoded::Good(page) = table::read(table, frame) else {

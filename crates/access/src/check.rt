@@ -17,6 +17,11 @@ use entries::entry::frame_of;
 use entries::leaf::LeafWord;
 use entries::table;
 
+// Whether an access writes.
+pub const READING: bool = false;
+
+pub const WRITING: bool = true;
+
 // Of a fixed page: the caller's word in its leaf decides.
 fn fixed(table: &[u64], memory: &[u64], writes: bool, caller: u64, gpa: u64, page: Entry) -> Gate
     ensures { λ g. ⌜ ((v : Verdict) → past g v

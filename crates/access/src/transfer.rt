@@ -23,7 +23,17 @@ pub fn read(
     ensures { λ r. ⌜ gave r (now (table .entry)) (now (memory .entry))
         ≡ read (state (now (table .entry)) (now (memory .entry))) caller gpa hpa gtype ntype index ⌝ }
 {
-    let checked = check::access(table, memory, false, caller, gpa, hpa, gtype, ntype, index);
+    let checked = check::access(
+        table,
+        memory,
+        check::READING,
+        caller,
+        gpa,
+        hpa,
+        gtype,
+        ntype,
+        index,
+    );
     if let Gate::Shut(refusal) = checked {
         return Answer::Refused(refusal);
     }
@@ -46,7 +56,17 @@ pub fn write(
     ensures { λ r. ⌜ gave r (now (table .entry)) (now (memory .exit))
         ≡ write (state (now (table .entry)) (now (memory .entry))) caller gpa hpa gtype ntype index value ⌝ }
 {
-    let checked = check::access(table, memory, true, caller, gpa, hpa, gtype, ntype, index);
+    let checked = check::access(
+        table,
+        memory,
+        check::WRITING,
+        caller,
+        gpa,
+        hpa,
+        gtype,
+        ntype,
+        index,
+    );
     if let Gate::Shut(refusal) = checked {
         return Answer::Refused(refusal);
     }

@@ -38,18 +38,29 @@ need kind validated fixed = record { 0 = kind; 1 = validated; 2 = fixed }
 abbrev pub row : Need → Need → Row
 row first second = record { 0 = first; 1 = second }
 
+-- one row an instruction: RMPUPDATE, PVALIDATE, PFIX, PMERGE, PUNMERGE, PUNFIX, READ, WRITE. READ and WRITE need the flags of a page of a
+-- guest alone: a SHARED frame has none.
 unfoldable pub needsTable : List Row
 needsTable =
+    -- RMPUPDATE
     row (need NOT-LEAF EITHER CLEAR) (need NO-FRAME EITHER EITHER)
+    -- PVALIDATE
     ∷ row (need AS-CALLED EITHER CLEAR) (need NO-FRAME EITHER EITHER)
+    -- PFIX
     ∷ row (need MERGEABLE SET CLEAR) (need LEAF EITHER EITHER)
+    -- PMERGE
     ∷ row (need MERGEABLE EITHER SET) (need MERGEABLE SET CLEAR)
+    -- PUNMERGE
     ∷ row (need MERGEABLE EITHER SET) (need SHARED EITHER EITHER)
+    -- PUNFIX
     ∷ row (need MERGEABLE EITHER SET) (need NO-FRAME EITHER EITHER)
+    -- READ
     ∷ row (need AS-CALLED SET EITHER) (need NO-FRAME EITHER EITHER)
+    -- WRITE
     ∷ row (need AS-CALLED SET CLEAR) (need NO-FRAME EITHER EITHER)
     ∷ []
 
+-- the row of an instruction, 0 to 7 in that order
 unfoldable pub needsOf : ℕ → Row
 needsOf instruction = getD needsTable instruction (row (need 0 0 0) (need 0 0 0))
 

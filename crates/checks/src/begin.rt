@@ -21,7 +21,7 @@ use entries::table;
 use words::frame;
 
 // Whether table and memory have the sizes that the rules ask for.
-pub fn sizes_hold(table: &[u64], memory: &[u64]) -> bool
+fn sizes_hold(table: &[u64], memory: &[u64]) -> bool
     ensures { λ r. ⌜ r ≡ sized (state (now (table .entry)) (now (memory .entry))) ⌝ }
 {
     let frames = frame::count(memory);

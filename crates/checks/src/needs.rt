@@ -5,14 +5,14 @@ use entries::entry::LEAF;
 use entries::entry::MERGEABLE;
 use entries::entry::SHARED;
 
-// A type, or one of these:
-// any type but LEAF
+// The type that is needed is one of the four, or one of these three.
+// Any type but LEAF.
 pub const NOT_LEAF: u64 = 4;
 
-// the type that the call names
+// The type that the call names.
 pub const AS_CALLED: u64 = 5;
 
-// the instruction names no such frame
+// The instruction names no such frame.
 pub const NO_FRAME: u64 = 6;
 
 // A flag that must be clear, that must be set, and that may be either.

@@ -1,7 +1,7 @@
 -- The two scans, one step at a time: what one frame, or one word, more makes of the answer so far; and that a leaf found in use stays
 -- in use, however many frames follow.
 -- Assumes nothing.
-use mathlib.Core.Path.{_≡_, refl, sym}
+use mathlib.Core.Path.{_≡_, sym}
 use mathlib.Core.Bool.{Bool, true, false, not}
 use mathlib.Core.List.{List}
 use Prim.Native.Nat.{ℕ, zero, suc, _+_, _%_, _<_, _≤_}

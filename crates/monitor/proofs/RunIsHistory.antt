@@ -3,7 +3,6 @@
 -- Assumes nothing.
 use mathlib.Core.Path.{_≡_, refl, ap, sym, _∙_}
 use mathlib.Core.List.{List, [], _∷_}
-use Prim.Native.Nat.{ℕ}
 use Rattle.rules.specs.Calls as rules
 use Rattle.rules.specs.History.{history, finally}
 use Rattle.rules.specs.State.{State, emptyTable}

@@ -18,10 +18,13 @@ pub record Turn : Type 0 where
   pub table : List ℕ
   pub memory : List ℕ
 
+abbrev pub turn : Call → Answer → List ℕ → List ℕ → Turn
+turn call answer table memory = record { call = call; answer = answer; table = table; memory = memory }
+
 abbrev pub left : Turn → State
 left turn = state (turn .table) (turn .memory)
 
--- what `step` ensures of a call, on a table and memory
+-- what `step` ensures of a call, on a table and memory: answer, table and memory are the rules'
 abbrev pub Promised : State → Turn → Type 0
 Promised s turn = gave (turn .answer) (turn .table) (turn .memory) ≡ step s (called (turn .call))
 

@@ -1,10 +1,7 @@
 // The monitor, whole: the nine calls on a lent table and a lent memory, and `step`, which makes any of them. Nothing is asked of a
 // caller: every call checks its arguments, the table and memory itself, and answers.
-ghost use mathlib.Core.Path.{_≡_};
-ghost use Rattle.rules.specs.Calls.{step};
 ghost use Rattle.rules.specs.State.{state};
-ghost use Rattle.checks.specs.Answer.{gave};
-ghost use Rattle.monitor.specs.Call.{called};
+ghost use Rattle.monitor.specs.Run.{turn, Promised};
 pub use access::census::census;
 pub use access::transfer::read;
 pub use access::transfer::write;
@@ -39,10 +36,11 @@ pub enum Call {
     Census(u64),
 }
 
-// Makes the call.
+// Makes the call by its function. `Promised` is the equation: answer, table and memory are those of the rules' `step`; what `specs/Run`
+// says of runs, demand 3 among it, is said of this.
 pub fn step(table: &mut [u64], memory: &mut [u64], call: Call) -> Answer
-    ensures { λ r. ⌜ gave r (now (table .exit)) (now (memory .exit))
-        ≡ step (state (now (table .entry)) (now (memory .entry))) (called call) ⌝ }
+    ensures { λ r. ⌜ Promised (state (now (table .entry)) (now (memory .entry)))
+        (turn call r (now (table .exit)) (now (memory .exit))) ⌝ }
 {
     match call {
         Call::Rmpupdate(caller, hpa, gpa, asid, kind) => {
