@@ -8,7 +8,6 @@ use checks::answer::Refusal;
 use checks::begin;
 use checks::gate::Gate;
 use checks::gate::go_on;
-use checks::gates;
 use checks::leaves;
 use entries::entry::Decoded;
 use entries::entry::Entry;
@@ -16,6 +15,7 @@ use entries::entry::SHARED;
 use entries::entry::frame_of;
 use entries::leaf::LeafWord;
 use entries::table;
+use needs::gates;
 
 // Whether an access writes.
 pub const READING: bool = false;

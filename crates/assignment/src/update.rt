@@ -12,12 +12,12 @@ use checks::answer::Answer;
 use checks::answer::Refusal;
 use checks::begin;
 use checks::gate::Gate;
-use checks::gates;
 use checks::passed::Page;
 use entries::entry::Decoded;
 use entries::entry::Entry;
 use entries::entry::frame_of;
 use entries::table;
+use needs::gates;
 use words::frame;
 
 // The host gives the frame at `hpa` to the guest `asid` at its address `gpa`, as a page of the type `kind`, or takes it back.

@@ -10,12 +10,12 @@ use checks::answer::Answer;
 use checks::answer::Refusal;
 use checks::begin;
 use checks::gate::Gate;
-use checks::gates;
 use checks::passed::Page;
 use entries::entry::Decoded;
 use entries::entry::Entry;
 use entries::entry::frame_of;
 use entries::table;
+use needs::gates;
 
 // The guest `caller` accepts the frame at `hpa` as its page at `gpa`.
 pub fn pvalidate(

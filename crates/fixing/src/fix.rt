@@ -11,13 +11,13 @@ use checks::answer::Answer;
 use checks::answer::Refusal;
 use checks::begin;
 use checks::gate::Gate;
-use checks::gates;
 use checks::passed::Page;
 use entries::entry::Decoded;
 use entries::entry::Entry;
 use entries::entry::frame_of;
 use entries::leaf::present_at;
 use entries::table;
+use needs::gates;
 use words::frame;
 
 // The page at `hpa` is fixed, with the LEAF frame at `leaf` as its leaf: its owner is the first guest in it.

@@ -11,7 +11,6 @@ use checks::answer::Answer;
 use checks::answer::Refusal;
 use checks::begin;
 use checks::gate::Gate;
-use checks::gates;
 use checks::leaves;
 use checks::passed::Place;
 use entries::entry::Decoded;
@@ -19,6 +18,7 @@ use entries::entry::Entry;
 use entries::entry::frame_of;
 use entries::leaf::LeafWord;
 use entries::table;
+use needs::gates;
 use words::frame;
 
 // The page at `hpa` is its owner's again, at the address that the leaf has for it, and the leaf becomes SHARED.

@@ -10,7 +10,6 @@ use checks::answer::Answer;
 use checks::answer::Refusal;
 use checks::begin;
 use checks::gate::Gate;
-use checks::gates;
 use checks::leaves;
 use checks::passed::Pages;
 use entries::entry::Decoded;
@@ -18,6 +17,7 @@ use entries::entry::Entry;
 use entries::entry::frame_of;
 use entries::leaf::present_at;
 use entries::table;
+use needs::gates;
 use words::frame;
 
 // The page at `hpa2` moves into the fixed page at `hpa1`, and its frame becomes SHARED.

@@ -123,8 +123,13 @@ module _ (caller gpa hpa gtype ntype index : ℕ) where
         index-small = omega arith;
       }
 
-  -- an access with a type other than SHARED is a guest's
-  pub guest-access : mayAccess caller gtype ntype ≡ true → eqb gtype SHARED ≡ false → caller ≡ 0 → ⊥
+  -- the host's accesses give SHARED on both sides, so one with another type is a guest's
+  pub host-access : mayAccess caller gtype ntype ≡ true → caller ≡ 0 → (gtype ≡ SHARED) × (ntype ≡ SHARED)
   unfolding mayAccess isHost
-  guest-access h n z =
-      ⊎-elim (λ g. eqb-false _ _ (not-true _ g) z) (λ q. false-not-true n (and-left _ _ q)) (or-cases _ _ h)
+  host-access h z =
+      ⊎-elim (λ g. absurd (eqb-false _ _ (not-true _ g) z))
+      (λ q. (eqb-true _ _ (and-left _ _ q), eqb-true _ _ (and-right _ _ q)))
+      (or-cases _ _ h)
+
+  pub guest-access : mayAccess caller gtype ntype ≡ true → eqb gtype SHARED ≡ false → caller ≡ 0 → ⊥
+  guest-access h n z = eqb-false _ _ n (host-access h z .0)

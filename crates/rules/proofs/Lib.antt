@@ -5,7 +5,6 @@ pub mod AssignmentChanges
 pub mod CensusLaws
 pub mod Chain
 pub mod Changes
-pub mod Computed
 pub mod Consulted
 pub mod Corollaries
 pub mod Effects
@@ -26,4 +25,3 @@ pub mod StateLaws
 pub mod StepChanges
 pub mod Steps
 pub mod Sums
-pub mod Worked

@@ -1,6 +1,6 @@
 -- Table and memory as the rules read and change them: an entry after an entry was put or memory changed, a word after a word, a zeroing
--- or a copy, and that no change alters a size. Only this file opens the state, and `Computed` for examples: all other proofs cite these
--- laws. Each is a law of the table or of a frame, carried over.
+-- or a copy, and that no change alters a size. Only this file opens the state: all other proofs cite these laws. Each is a law
+-- of the table or of a frame, carried over.
 -- Assumes nothing.
 use mathlib.Core.Path.{_≡_, refl, _∙_}
 use mathlib.Core.Bool.{true, false, false≢true}

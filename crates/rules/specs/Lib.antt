@@ -6,7 +6,6 @@ pub mod Assignment
 pub mod Balance
 pub mod Calls
 pub mod Census
-pub mod Examples
 pub mod History
 pub mod Leaves
 pub mod Merging

@@ -1,2 +1,4 @@
--- The worked script of 01 gives the worked output.
+-- The rules give the worked examples, and the worked output of 01 for its worked script.
+pub mod Computed
+pub mod Examples
 pub mod Output

@@ -2,7 +2,7 @@
 -- Assumes nothing.
 use mathlib.Core.Path.{_≡_, refl}
 use mathlib.Core.List.{map}
-use Rattle.rules.proofs.Computed.{computed}
+use Rattle.worked.proofs.Computed.{computed}
 use Rattle.rules.specs.History.{Made, history, byAnswer, accepted, eventOf, event}
 use Rattle.rules.specs.State.{emptyTable}
 use Rattle.worked.specs.Script.{start, script, output, events}

@@ -1,2 +1,3 @@
--- 01, "The script program": the worked script, as calls, and its worked output, as answers.
+-- Worked examples of the rules: of each call by itself, and the worked script of 01.
+pub mod Examples
 pub mod Script

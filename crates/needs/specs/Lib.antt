@@ -1,0 +1,2 @@
+-- The table of needs, and when a need is met.
+pub mod Needs

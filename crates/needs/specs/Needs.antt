@@ -1,0 +1,72 @@
+-- 01, "The calls": "The needed type and flags of each named frame, by instruction, stand in one constant table". This is the table, row
+-- for row; that it says what the rules say is shown where the gates of src/gates.rt are proved.
+use mathlib.Core.Bool.{Bool, true, not}
+use mathlib.Core.List.{List, [], _∷_}
+use Prim.Native.Nat.{ℕ}
+use lib.Dec.{eqb}
+use lib.ListN.{getD}
+use Rattle.words.specs.Choice.{pick}
+use Rattle.entries.specs.Entry.{SHARED, MERGEABLE, LEAF}
+use Rattle.needs.specs.declared.table.Need.{Need}
+use Rattle.needs.specs.declared.table.Row.{Row}
+
+-- a need that is no type: any but LEAF, the one that the call names, no such frame
+abbrev pub NOT-LEAF : ℕ
+NOT-LEAF = 4
+
+abbrev pub AS-CALLED : ℕ
+AS-CALLED = 5
+
+abbrev pub NO-FRAME : ℕ
+NO-FRAME = 6
+
+-- a flag that must be clear, that must be set, and that may be either
+abbrev pub CLEAR : ℕ
+CLEAR = 0
+
+abbrev pub SET : ℕ
+SET = 1
+
+abbrev pub EITHER : ℕ
+EITHER = 2
+
+-- type, VALIDATED, FIXED
+abbrev pub need : ℕ → ℕ → ℕ → Need
+need kind validated fixed = record { 0 = kind; 1 = validated; 2 = fixed }
+
+-- the first named frame, the second
+abbrev pub row : Need → Need → Row
+row first second = record { 0 = first; 1 = second }
+
+-- one row an instruction: RMPUPDATE, PVALIDATE, PFIX, PMERGE, PUNMERGE, PUNFIX, READ, WRITE. READ and WRITE need the flags of a page of a
+-- guest alone: a SHARED frame has none.
+unfoldable pub needsTable : List Row
+needsTable =
+    -- RMPUPDATE
+    row (need NOT-LEAF EITHER CLEAR) (need NO-FRAME EITHER EITHER)
+    -- PVALIDATE
+    ∷ row (need AS-CALLED EITHER CLEAR) (need NO-FRAME EITHER EITHER)
+    -- PFIX
+    ∷ row (need MERGEABLE SET CLEAR) (need LEAF EITHER EITHER)
+    -- PMERGE
+    ∷ row (need MERGEABLE EITHER SET) (need MERGEABLE SET CLEAR)
+    -- PUNMERGE
+    ∷ row (need MERGEABLE EITHER SET) (need SHARED EITHER EITHER)
+    -- PUNFIX
+    ∷ row (need MERGEABLE EITHER SET) (need NO-FRAME EITHER EITHER)
+    -- READ
+    ∷ row (need AS-CALLED SET EITHER) (need NO-FRAME EITHER EITHER)
+    -- WRITE
+    ∷ row (need AS-CALLED SET CLEAR) (need NO-FRAME EITHER EITHER)
+    ∷ []
+
+-- the row of an instruction, 0 to 7 in that order
+unfoldable pub needsOf : ℕ → Row
+needsOf instruction = getD needsTable instruction (row (need 0 0 0) (need 0 0 0))
+
+-- whether a page's type meets a need, in a call that names the type `called`; whether a flag does
+unfoldable pub kindMet : ℕ → ℕ → ℕ → Bool
+kindMet need kind called = pick (eqb need AS-CALLED) (eqb kind called) (pick (eqb need NOT-LEAF) (not (eqb kind LEAF)) (eqb kind need))
+
+unfoldable pub flagMet : ℕ → Bool → Bool
+flagMet need flag = pick (eqb need CLEAR) (not flag) (pick (eqb need SET) flag true)
