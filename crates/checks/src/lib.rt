@@ -1,5 +1,5 @@
-// What every call shares: refusals and answers, a chain of checks as a value, the checks that each call begins with, and the leaf of a
-// fixed page.
+// What the calls share: refusals and answers, a chain of checks as a value, the checks that each call begins with, what a call's checks
+// come to, and the leaf of a fixed page.
 pub mod answer;
 pub mod arguments;
 pub mod begin;

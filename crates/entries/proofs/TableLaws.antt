@@ -1,6 +1,6 @@
 -- The table as a map from frames to entries: an entry that was put is read back, every other frame's entry stays, and so do the
 -- table's sizes; what is read is well formed; an empty table reads as zero entries. With the four definitions of `specs/Table` these are
--- all that knows an entry's words in the table.
+-- all that knows an entry's words in the table, but for worked examples.
 -- Assumes nothing.
 use mathlib.Core.Path.{_≡_, refl}
 use mathlib.Core.Bool.{true}

@@ -1,5 +1,5 @@
 -- What a well formed entry tells, and which entries are well formed: each fact follows from one or two of the three tests that
--- `wellFormed` joins. Proofs cite these and never open the tests.
+-- `wellFormed` joins. The proofs of other crates cite these and never open the tests.
 -- Assumes nothing.
 use mathlib.Core.Path.{_≡_, refl, sym, _∙_}
 use mathlib.Core.Bool.{Bool, true, false, false≢true}

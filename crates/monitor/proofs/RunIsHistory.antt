@@ -8,16 +8,9 @@ use Rattle.rules.specs.History.{history, finally}
 use Rattle.rules.specs.State.{State, emptyTable}
 use Rattle.rules.proofs.History.{no-counter-goes-back}
 use Rattle.monitor.specs.Call.{called}
-use Rattle.monitor.specs.Run.{Turn, left, Run, none, next, asMade, ended, CodeDemand3}
+use Rattle.monitor.specs.Run.{left, none, next, asMade, ended, calls, RunIsHistory, CodeDemand3}
 
--- the rules' calls of a run
-pub calls : List Turn → List rules.Call
-calls [] = []
-calls (turn ∷ rest) = called (turn .call) ∷ calls rest
-
-pub run-is-history :
-    (s : State) (turns : List Turn) → Run s turns
-    → (history s (calls turns) ≡ asMade s turns) × (finally s (calls turns) ≡ ended s turns)
+pub run-is-history : RunIsHistory
 unfolding history finally asMade ended calls
 run-is-history s [] none = (refl, refl)
 run-is-history s (turn ∷ rest) (next kept on) =

@@ -1,10 +1,11 @@
--- Demand 3 of the code. A run of the code makes calls one after the other, each on the table and memory that the call before left. What is
--- known of each is what `step` promises of it.
+-- 00, demand 3, "Premise: each call gets the table and memory, whole, as the call before left them", and 01, "Demand 3 speaks of
+-- histories": demand 3 of the code. A run of the code makes calls one after the other. What is known of each is what `step` promises of it.
 use mathlib.Core.Path.{_≡_}
 use mathlib.Core.List.{List, [], _∷_}
 use Prim.Native.Nat.{ℕ}
 use Rattle.rules.specs.Calls.{step}
-use Rattle.rules.specs.History.{Made, NoCounterGoesBack}
+use Rattle.rules.specs.Calls as rules
+use Rattle.rules.specs.History.{Made, history, finally, NoCounterGoesBack}
 use Rattle.rules.specs.State.{State, state, emptyTable}
 use Rattle.checks.specs.Answer.{told, gave}
 use Rattle.checks.specs.declared.answer.Answer.{Answer}
@@ -41,6 +42,16 @@ asMade s (turn ∷ rest) = record { call = called (turn .call); got = s; told = 
 unfoldable pub ended : State → List Turn → State
 ended s [] = s
 ended s (turn ∷ rest) = ended (left turn) rest
+
+-- a run of the code is a history of the rules: the same calls, with the same answers, and the same table and memory at the end
+unfoldable pub calls : List Turn → List rules.Call
+calls [] = []
+calls (turn ∷ rest) = called (turn .call) ∷ calls rest
+
+abbrev pub RunIsHistory : Type 0
+RunIsHistory =
+    (s : State) (turns : List Turn) → Run s turns
+    → (history s (calls turns) ≡ asMade s turns) × (finally s (calls turns) ≡ ended s turns)
 
 -- demand 3, of every run of the code from an empty table and any memory
 abbrev pub CodeDemand3 : Type 0

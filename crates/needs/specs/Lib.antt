@@ -1,2 +1,3 @@
--- The table of needs, and when a need is met.
+-- The table of needs, when a need is met, and what a row asks as a chain of checks.
+pub mod Needed
 pub mod Needs

@@ -10,15 +10,15 @@ use Rattle.entries.specs.Entry.{SHARED, MERGEABLE, LEAF}
 use Rattle.needs.specs.declared.table.Need.{Need}
 use Rattle.needs.specs.declared.table.Row.{Row}
 
--- a need that is no type: any but LEAF, the one that the call names, no such frame
+-- a type that is needed is one of the four, or any but LEAF, or the one that the call names, or none: there is no such frame
 abbrev pub NOT-LEAF : ℕ
 NOT-LEAF = 4
 
 abbrev pub AS-CALLED : ℕ
 AS-CALLED = 5
 
-abbrev pub NO-FRAME : ℕ
-NO-FRAME = 6
+abbrev pub NONE : ℕ
+NONE = 6
 
 -- a flag that must be clear, that must be set, and that may be either
 abbrev pub CLEAR : ℕ
@@ -34,18 +34,21 @@ EITHER = 2
 abbrev pub need : ℕ → ℕ → ℕ → Need
 need kind validated fixed = record { 0 = kind; 1 = validated; 2 = fixed }
 
+-- the second column of an instruction that names one frame
+abbrev pub NO-FRAME : Need
+NO-FRAME = need NONE EITHER EITHER
+
 -- the first named frame, the second
 abbrev pub row : Need → Need → Row
 row first second = record { 0 = first; 1 = second }
 
--- one row an instruction: RMPUPDATE, PVALIDATE, PFIX, PMERGE, PUNMERGE, PUNFIX, READ, WRITE. READ and WRITE need the flags of a page of a
--- guest alone: a SHARED frame has none.
+-- one row an instruction. READ and WRITE need the flags of a page of a guest alone: a SHARED frame has none.
 unfoldable pub needsTable : List Row
 needsTable =
     -- RMPUPDATE
-    row (need NOT-LEAF EITHER CLEAR) (need NO-FRAME EITHER EITHER)
+    row (need NOT-LEAF EITHER CLEAR) NO-FRAME
     -- PVALIDATE
-    ∷ row (need AS-CALLED EITHER CLEAR) (need NO-FRAME EITHER EITHER)
+    ∷ row (need AS-CALLED EITHER CLEAR) NO-FRAME
     -- PFIX
     ∷ row (need MERGEABLE SET CLEAR) (need LEAF EITHER EITHER)
     -- PMERGE
@@ -53,14 +56,14 @@ needsTable =
     -- PUNMERGE
     ∷ row (need MERGEABLE EITHER SET) (need SHARED EITHER EITHER)
     -- PUNFIX
-    ∷ row (need MERGEABLE EITHER SET) (need NO-FRAME EITHER EITHER)
+    ∷ row (need MERGEABLE EITHER SET) NO-FRAME
     -- READ
-    ∷ row (need AS-CALLED SET EITHER) (need NO-FRAME EITHER EITHER)
+    ∷ row (need AS-CALLED SET EITHER) NO-FRAME
     -- WRITE
-    ∷ row (need AS-CALLED SET CLEAR) (need NO-FRAME EITHER EITHER)
+    ∷ row (need AS-CALLED SET CLEAR) NO-FRAME
     ∷ []
 
--- the row of an instruction, 0 to 7 in that order
+-- the row of an instruction, 0 to 7 in the order of the table
 unfoldable pub needsOf : ℕ → Row
 needsOf instruction = getD needsTable instruction (row (need 0 0 0) (need 0 0 0))
 

@@ -7,10 +7,14 @@ ghost use Rattle.entries.specs.Entry.{SHARED, MERGEABLE, LEAF};
 ghost use Rattle.rules.specs.Access.{unfixedAccess};
 ghost use Rattle.rules.specs.Answers.{Verdict, unless, when};
 ghost use Rattle.rules.specs.Refusals.{TYPE, OWNER, ADDRESS, NOT-VALIDATED, FIXED, NOT-FIXED};
+ghost use Rattle.checks.specs.Answer.{number};
 ghost use Rattle.checks.specs.Gate.{past};
+ghost use Rattle.needs.specs.Needed.{fixedRefusal, flagsNeeded, pageNeeded, pagesNeeded};
 ghost use Rattle.needs.specs.Needs.{need, AS-CALLED, SET, CLEAR, EITHER};
 use crate::table;
 use crate::table::Need;
+use crate::table::Row;
+use crate::table::SET;
 use crate::table::needs;
 use checks::answer::Refusal;
 use checks::gate::Gate;
@@ -21,10 +25,7 @@ use entries::entry::Entry;
 pub fn rmpupdate(old: Entry) -> Gate
     ensures { λ g. ⌜ ((v : Verdict) → past g v ≡ when (eqb (old .kind) LEAF) TYPE (when (old .fixed) FIXED v)) ⌝ }
 {
-    let row = needs(table::RMPUPDATE);
-    let page = row.0;
-    let unfixed = go_on(page.fixed_met(old.fixed), Refusal::Fixed, Gate::Open);
-    go_on(page.kind_met(old.kind, 0), Refusal::PageType, unfixed)
+    one_frame(needs(table::RMPUPDATE), old)
 }
 
 // PVALIDATE: 6, 7, 10, 8.
@@ -38,8 +39,8 @@ pub fn pvalidate(page: Entry, caller: u64, gpa: u64, kind: u64) -> Gate
     let row = needs(table::PVALIDATE);
     let need = row.0;
     let there = go_on(page.address == gpa, Refusal::Address, Gate::Open);
-    let unfixed = go_on(need.fixed_met(page.fixed), Refusal::Fixed, there);
-    let owned = go_on(page.asid == caller, Refusal::Owner, unfixed);
+    let flagged = flags(need, page, there);
+    let owned = go_on(page.asid == caller, Refusal::Owner, flagged);
     go_on(need.kind_met(page.kind, kind), Refusal::PageType, owned)
 }
 
@@ -50,20 +51,7 @@ pub fn pfix(old: Entry, leaf: Entry) -> Gate
         (when (old .fixed) FIXED
         (unless (old .validated) NOT-VALIDATED v))) ⌝ }
 {
-    let row = needs(table::PFIX);
-    let one = row.0;
-    let two = row.1;
-    let opened = go_on(
-        one.validated_met(old.validated),
-        Refusal::NotValidated,
-        Gate::Open,
-    );
-    let unfixed = go_on(one.fixed_met(old.fixed), Refusal::Fixed, opened);
-    go_on(
-        one.kind_met(old.kind, 0) & two.kind_met(leaf.kind, 0),
-        Refusal::PageType,
-        unfixed,
-    )
+    two_frames(needs(table::PFIX), old, leaf)
 }
 
 // PMERGE: 6 of both, 11 of the first, 10 and 9 of the second.
@@ -74,21 +62,7 @@ pub fn pmerge(one: Entry, two: Entry) -> Gate
         (when (two .fixed) FIXED
         (unless (two .validated) NOT-VALIDATED v)))) ⌝ }
 {
-    let row = needs(table::PMERGE);
-    let first = row.0;
-    let second = row.1;
-    let opened = go_on(
-        second.validated_met(two.validated),
-        Refusal::NotValidated,
-        Gate::Open,
-    );
-    let unfixed = go_on(second.fixed_met(two.fixed), Refusal::Fixed, opened);
-    let fixed = go_on(first.fixed_met(one.fixed), Refusal::NotFixed, unfixed);
-    go_on(
-        first.kind_met(one.kind, 0) & second.kind_met(two.kind, 0),
-        Refusal::PageType,
-        fixed,
-    )
+    two_frames(needs(table::PMERGE), one, two)
 }
 
 // PUNMERGE: 6 of both, 11.
@@ -96,15 +70,7 @@ pub fn punmerge(one: Entry, two: Entry) -> Gate
     ensures { λ g. ⌜ ((v : Verdict) → past g v
         ≡ unless (eqb (one .kind) MERGEABLE and eqb (two .kind) SHARED) TYPE (unless (one .fixed) NOT-FIXED v)) ⌝ }
 {
-    let row = needs(table::PUNMERGE);
-    let first = row.0;
-    let second = row.1;
-    let fixed = go_on(first.fixed_met(one.fixed), Refusal::NotFixed, Gate::Open);
-    go_on(
-        first.kind_met(one.kind, 0) & second.kind_met(two.kind, 0),
-        Refusal::PageType,
-        fixed,
-    )
+    two_frames(needs(table::PUNMERGE), one, two)
 }
 
 // PUNFIX: 6, 11.
@@ -112,10 +78,53 @@ pub fn punfix(old: Entry) -> Gate
     ensures { λ g. ⌜ ((v : Verdict) → past g v
         ≡ unless (eqb (old .kind) MERGEABLE) TYPE (unless (old .fixed) NOT-FIXED v)) ⌝ }
 {
-    let row = needs(table::PUNFIX);
-    let page = row.0;
-    let fixed = go_on(page.fixed_met(old.fixed), Refusal::NotFixed, Gate::Open);
-    go_on(page.kind_met(old.kind, 0), Refusal::PageType, fixed)
+    one_frame(needs(table::PUNFIX), old)
+}
+
+// What a row needs of the one frame that its instruction names: 6, then the flags.
+fn one_frame(row: Row, page: Entry) -> Gate
+    ensures { λ g. ⌜ ((v : Verdict) → past g v ≡ pageNeeded row page v) ⌝ }
+{
+    let need = row.0;
+    let flagged = flags(need, page, Gate::Open);
+    go_on(need.kind_met(page.kind, 0), Refusal::PageType, flagged)
+}
+
+// What a row needs of two frames: 6 of both, then the flags of the first and those of the second.
+fn two_frames(row: Row, one: Entry, two: Entry) -> Gate
+    ensures { λ g. ⌜ ((v : Verdict) → past g v ≡ pagesNeeded row one two v) ⌝ }
+{
+    let first = row.0;
+    let second = row.1;
+    let flagged2 = flags(second, two, Gate::Open);
+    let flagged = flags(first, one, flagged2);
+    go_on(
+        first.kind_met(one.kind, 0) & second.kind_met(two.kind, 0),
+        Refusal::PageType,
+        flagged,
+    )
+}
+
+// The flags of a page: FIXED, then VALIDATED, then `rest`.
+fn flags(need: Need, page: Entry, rest: Gate) -> Gate
+    ensures { λ g. ⌜ ((v : Verdict) → past g v ≡ flagsNeeded need page (past rest v)) ⌝ }
+{
+    let opened = go_on(
+        need.validated_met(page.validated),
+        Refusal::NotValidated,
+        rest,
+    );
+    go_on(need.fixed_met(page.fixed), fixed_refusal(need.2), opened)
+}
+
+// 11 where FIXED must be set, else 10.
+fn fixed_refusal(need: u64) -> Refusal
+    ensures { λ r. ⌜ number r ≡ fixedRefusal need ⌝ }
+{
+    if need == SET {
+        return Refusal::NotFixed;
+    }
+    Refusal::Fixed
 }
 
 // What WRITE needs, or READ.

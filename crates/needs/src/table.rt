@@ -5,29 +5,30 @@ use entries::entry::LEAF;
 use entries::entry::MERGEABLE;
 use entries::entry::SHARED;
 
-// The type that is needed is one of the four, or one of these three.
-// Any type but LEAF.
-pub const NOT_LEAF: u64 = 4;
+// A type that is needed is one of the four, or any but LEAF, or the one that the call names, or none: there is no such frame.
+const NOT_LEAF: u64 = 4;
 
-// The type that the call names.
-pub const AS_CALLED: u64 = 5;
+const AS_CALLED: u64 = 5;
 
-// The instruction names no such frame.
-pub const NO_FRAME: u64 = 6;
+const NONE: u64 = 6;
 
 // A flag that must be clear, that must be set, and that may be either.
-pub const CLEAR: u64 = 0;
+const CLEAR: u64 = 0;
 
 pub const SET: u64 = 1;
 
-pub const EITHER: u64 = 2;
+const EITHER: u64 = 2;
 
 // What is needed of one frame: its type, VALIDATED, FIXED.
 pub struct Need(pub u64, pub u64, pub u64);
 
+// The second column of an instruction that names one frame.
+const NO_FRAME: Need = Need(NONE, EITHER, EITHER);
+
 // What is needed of the first named frame, and of the second.
 pub struct Row(pub Need, pub Need);
 
+// The rows.
 pub const RMPUPDATE: usize = 0;
 
 pub const PVALIDATE: usize = 1;
@@ -46,20 +47,14 @@ pub const WRITE: usize = 7;
 
 // READ and WRITE need the flags of a page of a guest alone: a SHARED frame has none.
 const NEEDS: [Row; 8] = [
-    Row(
-        Need(NOT_LEAF, EITHER, CLEAR),
-        Need(NO_FRAME, EITHER, EITHER),
-    ), // RMPUPDATE
-    Row(
-        Need(AS_CALLED, EITHER, CLEAR),
-        Need(NO_FRAME, EITHER, EITHER),
-    ), // PVALIDATE
+    Row(Need(NOT_LEAF, EITHER, CLEAR), NO_FRAME), // RMPUPDATE
+    Row(Need(AS_CALLED, EITHER, CLEAR), NO_FRAME), // PVALIDATE
     Row(Need(MERGEABLE, SET, CLEAR), Need(LEAF, EITHER, EITHER)), // PFIX
     Row(Need(MERGEABLE, EITHER, SET), Need(MERGEABLE, SET, CLEAR)), // PMERGE
     Row(Need(MERGEABLE, EITHER, SET), Need(SHARED, EITHER, EITHER)), // PUNMERGE
-    Row(Need(MERGEABLE, EITHER, SET), Need(NO_FRAME, EITHER, EITHER)), // PUNFIX
-    Row(Need(AS_CALLED, SET, EITHER), Need(NO_FRAME, EITHER, EITHER)), // READ
-    Row(Need(AS_CALLED, SET, CLEAR), Need(NO_FRAME, EITHER, EITHER)), // WRITE
+    Row(Need(MERGEABLE, EITHER, SET), NO_FRAME), // PUNFIX
+    Row(Need(AS_CALLED, SET, EITHER), NO_FRAME), // READ
+    Row(Need(AS_CALLED, SET, CLEAR), NO_FRAME), // WRITE
 ];
 
 // An instruction's row; past the last, one of zeros.

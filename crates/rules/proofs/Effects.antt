@@ -1,5 +1,5 @@
 -- What each accepted call does to table and memory, entry by entry and word by word. Each follows from what the call has passed and the
--- laws of the state; nothing here knows of guests' places. Proofs about calls cite these and open no change.
+-- laws of the state; nothing here knows of guests' places. The proofs of demand 3 cite these and open no change.
 -- Assumes nothing.
 use mathlib.Core.Path.{_≡_, refl, sym, _∙_}
 use mathlib.Core.Bool.{Bool, true, false}

@@ -1,5 +1,4 @@
--- Lists of calls as they were made: their openings counted and found, a list that is made in two parts, and one that is cut at one of its
--- calls, which got what the calls before it left. By induction on the calls.
+-- Lists of calls as they were made: their openings counted and found, and a list that is cut at one of its calls, which got what the calls before it left. By induction on the calls.
 -- Assumes nothing.
 use mathlib.Core.Path.{_≡_, refl, ap}
 use mathlib.Core.Bool.{Bool, true, false, false≢true}
@@ -89,18 +88,6 @@ opening-there (m ∷ rest) guest gpa some =
     ⊎-elim (opened-first m rest guest gpa)
     (λ h. opened-later m (opening-there rest guest gpa (omega (arith, uncounted h))))
     (true-or-false (isOpening (event m) guest gpa))
-
--- ---- a list of calls that is made in two parts
-pub finally-append : (s : State) (first then : List Call) → finally s (first ++ then) ≡ finally (finally s first) then
-unfolding finally
-finally-append s [] then = refl
-finally-append s (call ∷ first) then = finally-append (step s call .after) first then
-
-pub history-append :
-    (s : State) (first then : List Call) → history s (first ++ then) ≡ history s first ++ history (finally s first) then
-unfolding history finally
-history-append s [] then = refl
-history-append s (call ∷ first) then = ap (λ l. made s call ∷ l) (history-append (step s call .after) first then)
 
 -- ---- a list cut at one of its calls
 pub record Cut (s : State) (past : List Made) (m : Made) (rest : List Made) : Type 0 where

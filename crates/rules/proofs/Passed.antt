@@ -1,5 +1,5 @@
 -- What an accepted call has passed, as facts, and that a call is either refused, with the state as it was, or has passed them and done
--- what its rule says. A proof about a call goes by these cases and opens no rule.
+-- what its rule says. The proofs of demand 3 go by these cases and open no rule.
 -- Assumes nothing.
 use mathlib.Core.Path.{_≡_, refl, _∙_}
 use mathlib.Core.Bool.{Bool, true, false, not}

@@ -1,6 +1,6 @@
 -- Table and memory as the rules read and change them: an entry after an entry was put or memory changed, a word after a word, a zeroing
--- or a copy, and that no change alters a size. Only this file opens the state: all other proofs cite these laws. Each is a law
--- of the table or of a frame, carried over.
+-- or a copy, and that no change alters a size. In this crate only this file opens the state: all other proofs cite these laws. Each is a
+-- law of the table or of a frame, carried over.
 -- Assumes nothing.
 use mathlib.Core.Path.{_≡_, refl, _∙_}
 use mathlib.Core.Bool.{true, false, false≢true}
@@ -10,7 +10,7 @@ use Prim.Native.Nat.{ℕ, _≤_, _<_}
 use borrow.Author.Tests.{leb-true, ltb-true, ltb-false}
 use Rattle.words.proofs.ChoiceLaws.{and-left, and-right}
 use Rattle.words.proofs.FrameLaws.{count-putWord, count-zeroFrame, count-copyFrame, framed-putWord, framed-zeroFrame, framed-copyFrame}
-use Rattle.words.proofs.FrameLaws.{word-outside, word-past, word-put-same, word-put-other-frame, word-put-other-index, word-zero-same}
+use Rattle.words.proofs.FrameLaws.{word-put-same, word-put-other-frame, word-put-other-index, word-zero-same}
 use Rattle.words.proofs.FrameLaws.{word-zero-other, word-copy-same, word-copy-other, same-words}
 use Rattle.entries.specs.Entry.{frameOf, zeroEntry, wellFormed}
 use Rattle.entries.specs.declared.entry.Entry.{Entry}
@@ -145,14 +145,6 @@ entry-of-empty length memory f h = entry-empty length f h
 
 -- ---- words
 module _ (s : State) (f : ℕ) where
-  pub word-outside-memory : (i : ℕ) → M s ≤ f → wordAt s f i ≡ 0
-  unfolding wordAt M
-  word-outside-memory i h = word-outside (s .memory) f i h
-
-  pub word-past-frame : (i : ℕ) → 512 ≤ i → wordAt s f i ≡ 0
-  unfolding wordAt
-  word-past-frame i h = word-past (s .memory) f i h
-
   pub word-after-entry : (e : Entry) (g i : ℕ) → wordAt (withEntry s f e) g i ≡ wordAt s g i
   unfolding wordAt withEntry
   word-after-entry e g i = refl

@@ -1,5 +1,5 @@
 -- 01, "Sizes and layout": table and memory, their sizes, and what the rules read and change in them. The rules go through these names
--- alone, and the proofs through the laws about them.
+-- alone, and the proofs about the rules through the laws about them.
 use mathlib.Core.Bool.{Bool}
 use mathlib.Core.List.{List}
 use Prim.Native.Nat.{ℕ}

@@ -1,5 +1,5 @@
 -- A loop that lays a run over words, a word a turn, upwards or downwards. `Laid` says how far it has come: the words from `lo` to `hi`
--- of the run stand in their places, and every other word is as it was. It is the invariant of each loop of `run`.
+-- of the run stand in their places, and every other word is as it was. It is the invariant of the loops of `run` that copy.
 -- Assumes nothing.
 use mathlib.Core.Path.{_≡_, refl, sym, ap, _∙_}
 use mathlib.Core.List.{List}

@@ -1,4 +1,5 @@
--- Runs of 64-bit words: what copying and comparing them gives, for runs of any length.
+-- 01, "How tight the promises are": "zeroing, copying and comparing frames .. for a run of any length". What copying and comparing runs of
+-- words gives; a run that is zeroed is `replicate n 0`.
 use mathlib.Core.List.{List, _++_}
 use Prim.Native.Nat.{ℕ, zero, suc, _+_}
 use lib.Dec.{leb, eqb}

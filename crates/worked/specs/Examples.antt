@@ -1,5 +1,6 @@
--- Worked examples of the nine calls, each with the whole table and memory before and after it, and of each of the seventeen refusals;
--- and of places. They are worked by hand from 01; that the definitions give them is shown in proofs/Examples.
+-- 01, "The calls": worked examples of the nine calls, each with the whole table and memory before and after it; of every refusal that a
+-- call can give; of the order of checks; and of places. They are worked by hand from 01; that the definitions give them is shown in
+-- proofs/Examples.
 use mathlib.Core.List.{List, [], _∷_, _++_}
 use Prim.Native.Nat.{ℕ, _-_}
 use lib.ListN.{replicate}
@@ -61,6 +62,13 @@ unfoldable pub mergedPage : State
 mergedPage =
     state (0xe0007 ∷ 0x2000 ∷ 0 ∷ 0 ∷ 0x30000 ∷ 0 ∷ []) (page 3 0x2a ++ (blank ++ pageOfTwo 7 0x50001 9 0x60001))
 
+-- one frame whose entry has a spare bit; two frames, the first fixed with the second, which is no LEAF, as its leaf
+unfoldable pub badEntry : State
+badEntry = state (0x160007 ∷ 0x50000 ∷ []) blank
+
+unfoldable pub noLeaf : State
+noLeaf = state (0xe0007 ∷ 0x1000 ∷ 0 ∷ 0 ∷ []) (page 3 0x2a ++ blank)
+
 -- `apart` with frame 1, and not frame 0, fixed with that leaf
 unfoldable pub leafTaken : State
 leafTaken =
@@ -104,7 +112,7 @@ examples =
     ∷ refuses owned (READ 7 0x50001 0 2 2 3) 2
     ∷ refuses owned (READ 0 0x50000 0 2 2 3) 3
     ∷ refuses owned (READ 7 0x50000 0x1000 2 2 3) 4
-    ∷ refuses (state (0x160007 ∷ 0x50000 ∷ []) blank) (READ 7 0x50000 0 2 2 3) 5
+    ∷ refuses badEntry (READ 7 0x50000 0 2 2 3) 5
     ∷ refuses owned (READ 9 0x50000 0 2 2 3) 7
     ∷ refuses unopened (READ 7 0x50000 0 2 2 3) 9
     ∷ refuses apart (PMERGE 0 0 0x1000) 11
@@ -132,7 +140,7 @@ examples =
     ∷ refuses owned (PUNFIX 7 0x1000) 3
     ∷ refuses owned (READ 0 0x50000 0x1000 2 2 3) 3
     ∷ refuses owned (READ 7 0x50000 0x1000 0 2 3) 4
-    ∷ refuses (state (0x160007 ∷ 0x50000 ∷ []) blank) (PFIX 0 0 0x1000) 4
+    ∷ refuses badEntry (PFIX 0 0 0x1000) 4
     ∷ refuses fixedPage (PVALIDATE 9 0x50000 0 2) 7
     ∷ refuses fixedPage (PVALIDATE 7 0x50000 0 2) 10
     ∷ refuses unopened (READ 9 0x60000 0 2 2 3) 7
@@ -140,9 +148,46 @@ examples =
     ∷ refuses (state (0xe0007 ∷ 0x2000 ∷ 0x20009 ∷ 0x60000 ∷ 0 ∷ 0 ∷ []) (fixedPage .memory)) (PMERGE 0 0 0x1000) 9
     ∷ refuses (state (fixedPage .table) (page 3 0x2a ++ (page 3 0x2b ++ pageOfTwo 7 0x50001 9 0x70001))) (PMERGE 0 0 0x1000) 14
     ∷ refuses (state (mergedPage .table) (page 3 0x2a ++ (blank ++ page 9 0x60001))) (PUNFIX 0 0) 13
-    ∷ refuses (state (0xe0007 ∷ 0x1000 ∷ 0 ∷ 0 ∷ []) (page 3 0x2a ++ blank)) (WRITE 7 0x50000 0 2 2 3 0x2b) 10
+    ∷ refuses noLeaf (WRITE 7 0x50000 0 2 2 3 0x2b) 10
     ∷ refuses (state (0xe0007 ∷ 0x1000 ∷ 0x130000 ∷ 0 ∷ []) (blank ++ blank)) (CENSUS 7) 12
     ∷ refuses (state (0x130000 ∷ 0 ∷ 0xe0007 ∷ 0 ∷ []) (blank ++ blank)) (CENSUS 7) 5
+    ∷ refuses (state (0 ∷ []) blank) (READ 512 0x50001 0 2 2 3) 1
+    ∷ refuses owned (RMPUPDATE 7 0x1000 0 0 0) 3
+    ∷ refuses owned (RMPUPDATE 0 0x1000 0 0 0) 4
+    ∷ refuses badEntry (RMPUPDATE 0 0 0 0 0) 5
+    ∷ refuses owned (PVALIDATE 0 0x50000 0x1000 2) 3
+    ∷ refuses owned (PVALIDATE 7 0x50000 0x1000 2) 4
+    ∷ refuses badEntry (PVALIDATE 7 0x50000 0 2) 5
+    ∷ refuses unopened (PVALIDATE 9 0x50000 0 1) 6
+    ∷ refuses unopened (PVALIDATE 7 0x60000 0 2) 8
+    ∷ refuses owned (PFIX 7 0 0x1000) 3
+    ∷ refuses badEntry (PFIX 0 0 0) 5
+    ∷ refuses fixedPage (PFIX 0 0 0x1000) 6
+    ∷ refuses (state (0x20007 ∷ 0x50000 ∷ 0 ∷ 0 ∷ []) (blank ++ blank)) (PFIX 0 0 0x1000) 6
+    ∷ refuses fixedPage (PFIX 0 0 0x2000) 10
+    ∷ refuses (state (0x20007 ∷ 0x50000 ∷ 0xe0009 ∷ 0x2000 ∷ 0x30000 ∷ 0 ∷ []) (leafTaken .memory)) (PFIX 0 0 0x2000) 9
+    ∷ refuses owned (PMERGE 7 0 0x1000) 3
+    ∷ refuses badEntry (PMERGE 0 0 0x1000) 4
+    ∷ refuses badEntry (PMERGE 0 0 0) 5
+    ∷ refuses unfixedPage (PMERGE 0 0 0x2000) 6
+    ∷ refuses leafTaken (PMERGE 0 0 0x1000) 11
+    ∷ refuses (state (0x60007 ∷ 0x50000 ∷ 0x20009 ∷ 0x60000 ∷ []) (blank ++ blank)) (PMERGE 0 0 0x1000) 11
+    ∷ refuses fixedPage (PMERGE 0 0 0) 10
+    ∷ refuses (state (0xe0007 ∷ 0x2000 ∷ 0x60009 ∷ 0x60000 ∷ 0 ∷ 0 ∷ []) (mergedPage .memory)) (PMERGE 0 0 0x1000) 12
+    ∷ refuses owned (PUNMERGE 7 0 0x1000 9) 3
+    ∷ refuses badEntry (PUNMERGE 0 0 0x1000 9) 4
+    ∷ refuses badEntry (PUNMERGE 0 0 0 9) 5
+    ∷ refuses apart (PUNMERGE 0 0 0x1000 9) 6
+    ∷ refuses unfixedPage (PUNMERGE 0 0 0x2000 7) 11
+    ∷ refuses noLeaf (PUNMERGE 0 0 0x1000 7) 12
+    ∷ refuses badEntry (PUNFIX 0 0x1000) 4
+    ∷ refuses badEntry (PUNFIX 0 0) 5
+    ∷ refuses apart (PUNFIX 0 0x2000) 6
+    ∷ refuses owned (PUNFIX 0 0) 11
+    ∷ refuses noLeaf (PUNFIX 0 0) 12
+    ∷ refuses badEntry (READ 7 0x50000 0 2 1 3) 6
+    ∷ refuses noLeaf (READ 9 0x60000 0 2 2 3) 12
+    ∷ refuses mergedPage (READ 8 0x60000 0 2 2 3) 13
     ∷ []
 
 -- places: the state, the guest, the address, and how many

@@ -1,4 +1,4 @@
--- `checks::arguments::is_host` meets its contract: the tests that it joins promise those of the definition.
+-- `checks::arguments::is_host` meets its contract: its test is the definition's.
 -- Assumes nothing.
 use Rattle.rules.specs.Arguments.{isHost}
 use Rattle.checks.proofs.arguments.is_host.Statement.{statement}

@@ -1,7 +1,6 @@
--- `checks::begin::covers` meets its contract: the tests, and the checks in their order, are those of the definition.
+-- `checks::begin::covers` meets its contract: its test is the definition's, of what the two calls promise.
 -- Assumes nothing.
 use borrow.Author.Needs.{needs}
-use Rattle.rules.specs.State.{covers, N}
 use Rattle.checks.proofs.begin.covers.Statement.{statement}
 use Rattle.checks.proofs.begin.covers.Tie as tie
 
@@ -12,7 +11,6 @@ covered-requires : tie.Need-covered-requires
 covered-requires c κs = search needs
 
 returns : tie.Need-returns
-unfolding covers N
 returns c = rw (c .covered .ensures, c .before .frame-of .ensures)
 
 pub covers-spec : {M : Type 1} → statement M

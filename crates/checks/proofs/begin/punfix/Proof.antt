@@ -1,7 +1,6 @@
 -- `checks::begin::punfix` meets its contract: the tests, and the checks in their order, are those of the definition.
 -- Assumes nothing.
 use borrow.Author.Needs.{needs}
-use Rattle.words.specs.Choice.{_and_}
 use Rattle.rules.specs.State.{covers, N}
 use Rattle.checks.proofs.begin.punfix.Statement.{statement}
 use Rattle.checks.proofs.begin.punfix.Tie as tie
@@ -19,7 +18,7 @@ begin-requires : tie.Need-begin-requires
 begin-requires c κs = search needs
 
 returns : tie.Need-returns
-unfolding covers N _and_
+unfolding covers N
 returns c =
     let at-covers = c .before in let at-is-host = at-covers .before in let at-one-frame = at-is-host .before in
     λ v. rw (c .begin .ensures v, at-covers .covers .ensures, at-is-host .is-host .ensures, at-one-frame .one-frame .ensures)

@@ -1,4 +1,4 @@
--- `checks::begin::sizes_hold` meets its contract: the tests, and the checks in their order, are those of the definition.
+-- `checks::begin::sizes_hold` meets its contract: the tests that it joins are those of the definition.
 -- Assumes nothing.
 use borrow.Author.Needs.{needs}
 use Rattle.words.specs.Choice.{_and_}

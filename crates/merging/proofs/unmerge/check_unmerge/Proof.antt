@@ -1,5 +1,5 @@
 -- `merging::unmerge::check_unmerge` meets its contract: each return is a case of the rule. What the calls before it promise, and the
--- arm taken at each, rewrite the rule to it.
+-- arm taken at each, rewrite the rule to it. Entry 2 of the rule is entry 1, moved (`moved`).
 -- Assumes nothing.
 use borrow.Author.Needs.{needs}
 use Rattle.rules.specs.Answers.{entered}

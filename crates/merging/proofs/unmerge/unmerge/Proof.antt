@@ -1,4 +1,4 @@
--- `merging::unmerge::unmerge` meets its contract: the changes that it makes, one after the other, are those of the rule.
+-- `merging::unmerge::unmerge` meets its contract: the changes that it makes, one after the other, are those of `moving`.
 -- Assumes nothing.
 use borrow.Author.Needs.{needs}
 use Rattle.rules.specs.Leaves.{leafFrame}

@@ -1,0 +1,29 @@
+-- What a row of the table asks, as a chain of checks: types before flags, FIXED before VALIDATED, the first named frame before the second.
+-- Only promises of private functions name these. The public gates promise the rules' own chains.
+use mathlib.Core.Bool.{Bool}
+use Prim.Native.Nat.{ℕ}
+use lib.Dec.{eqb}
+use Rattle.words.specs.Choice.{pick, _and_}
+use Rattle.entries.specs.declared.entry.Entry.{Entry}
+use Rattle.rules.specs.Answers.{Verdict, unless}
+use Rattle.rules.specs.Refusals.{TYPE, NOT-VALIDATED, FIXED, NOT-FIXED}
+use Rattle.needs.specs.Needs.{SET, kindMet, flagMet}
+use Rattle.needs.specs.declared.table.Need.{Need}
+use Rattle.needs.specs.declared.table.Row.{Row}
+
+-- 11 where FIXED must be set, else 10
+unfoldable pub fixedRefusal : ℕ → ℕ
+fixedRefusal need = pick (eqb need SET) NOT-FIXED FIXED
+
+unfoldable pub flagsNeeded : Need → Entry → Verdict → Verdict
+flagsNeeded need page rest =
+    unless (flagMet (need .2) (page .fixed)) (fixedRefusal (need .2))
+    (unless (flagMet (need .1) (page .validated)) NOT-VALIDATED rest)
+
+unfoldable pub pageNeeded : Row → Entry → Verdict → Verdict
+pageNeeded row page rest = unless (kindMet (row .0 .0) (page .kind) 0) TYPE (flagsNeeded (row .0) page rest)
+
+unfoldable pub pagesNeeded : Row → Entry → Entry → Verdict → Verdict
+pagesNeeded row one two rest =
+    unless (kindMet (row .0 .0) (one .kind) 0 and kindMet (row .1 .0) (two .kind) 0) TYPE
+    (flagsNeeded (row .0) one (flagsNeeded (row .1) two rest))
