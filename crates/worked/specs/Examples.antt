@@ -62,7 +62,10 @@ unfoldable pub mergedPage : State
 mergedPage =
     state (0xe0007 ∷ 0x2000 ∷ 0 ∷ 0 ∷ 0x30000 ∷ 0 ∷ []) (page 3 0x2a ++ (blank ++ pageOfTwo 7 0x50001 9 0x60001))
 
--- one frame whose entry has a spare bit; two frames, the first fixed with the second, which is no LEAF, as its leaf
+-- half an entry; one frame whose entry has a spare bit; two frames, the first fixed with the second, which is no LEAF, as its leaf
+unfoldable pub halfEntry : State
+halfEntry = state (0 ∷ []) blank
+
 unfoldable pub badEntry : State
 badEntry = state (0x160007 ∷ 0x50000 ∷ []) blank
 
@@ -105,7 +108,7 @@ examples =
     ∷ accepts lone (WRITE 0 0 0x1000 0 0 3 0x2b) done (state (0x60007 ∷ 0x50000 ∷ []) (page 3 0x2a ++ page 3 0x2b))
     ∷ refuses lone (WRITE 7 0x50000 0x1000 2 2 3 0x2b) 6
     -- the sizes: half an entry, a part of a frame, more entries than frames
-    ∷ refuses (state (0 ∷ []) blank) (CENSUS 7) 1
+    ∷ refuses halfEntry (CENSUS 7) 1
     ∷ refuses (state (0 ∷ 0 ∷ []) (0 ∷ blank)) (CENSUS 7) 1
     ∷ refuses (state (0 ∷ 0 ∷ 0 ∷ 0 ∷ []) blank) (CENSUS 7) 1
     -- the other numbers, on READ and PMERGE
@@ -151,21 +154,27 @@ examples =
     ∷ refuses noLeaf (WRITE 7 0x50000 0 2 2 3 0x2b) 10
     ∷ refuses (state (0xe0007 ∷ 0x1000 ∷ 0x130000 ∷ 0 ∷ []) (blank ++ blank)) (CENSUS 7) 12
     ∷ refuses (state (0x130000 ∷ 0 ∷ 0xe0007 ∷ 0 ∷ []) (blank ++ blank)) (CENSUS 7) 5
-    ∷ refuses (state (0 ∷ []) blank) (READ 512 0x50001 0 2 2 3) 1
+    -- the refusals that are left, each where a later check fails too, if there is one that can
+    ∷ refuses halfEntry (RMPUPDATE 7 1 1 1 4) 1
     ∷ refuses owned (RMPUPDATE 7 0x1000 0 0 0) 3
     ∷ refuses owned (RMPUPDATE 0 0x1000 0 0 0) 4
     ∷ refuses badEntry (RMPUPDATE 0 0 0 0 0) 5
+    ∷ refuses halfEntry (PVALIDATE 0 1 1 0) 1
     ∷ refuses owned (PVALIDATE 0 0x50000 0x1000 2) 3
     ∷ refuses owned (PVALIDATE 7 0x50000 0x1000 2) 4
     ∷ refuses badEntry (PVALIDATE 7 0x50000 0 2) 5
     ∷ refuses unopened (PVALIDATE 9 0x50000 0 1) 6
     ∷ refuses unopened (PVALIDATE 7 0x60000 0 2) 8
+    ∷ refuses halfEntry (PFIX 7 1 0) 1
+    ∷ refuses owned (PFIX 7 0 1) 2
     ∷ refuses owned (PFIX 7 0 0x1000) 3
     ∷ refuses badEntry (PFIX 0 0 0) 5
     ∷ refuses fixedPage (PFIX 0 0 0x1000) 6
     ∷ refuses (state (0x20007 ∷ 0x50000 ∷ 0 ∷ 0 ∷ []) (blank ++ blank)) (PFIX 0 0 0x1000) 6
     ∷ refuses fixedPage (PFIX 0 0 0x2000) 10
     ∷ refuses (state (0x20007 ∷ 0x50000 ∷ 0xe0009 ∷ 0x2000 ∷ 0x30000 ∷ 0 ∷ []) (leafTaken .memory)) (PFIX 0 0 0x2000) 9
+    ∷ refuses halfEntry (PMERGE 7 1 0) 1
+    ∷ refuses owned (PMERGE 7 0 1) 2
     ∷ refuses owned (PMERGE 7 0 0x1000) 3
     ∷ refuses badEntry (PMERGE 0 0 0x1000) 4
     ∷ refuses badEntry (PMERGE 0 0 0) 5
@@ -174,20 +183,31 @@ examples =
     ∷ refuses (state (0x60007 ∷ 0x50000 ∷ 0x20009 ∷ 0x60000 ∷ []) (blank ++ blank)) (PMERGE 0 0 0x1000) 11
     ∷ refuses fixedPage (PMERGE 0 0 0) 10
     ∷ refuses (state (0xe0007 ∷ 0x2000 ∷ 0x60009 ∷ 0x60000 ∷ 0 ∷ 0 ∷ []) (mergedPage .memory)) (PMERGE 0 0 0x1000) 12
+    ∷ refuses halfEntry (PUNMERGE 7 1 0 0) 1
     ∷ refuses owned (PUNMERGE 7 0 0x1000 9) 3
     ∷ refuses badEntry (PUNMERGE 0 0 0x1000 9) 4
     ∷ refuses badEntry (PUNMERGE 0 0 0 9) 5
     ∷ refuses apart (PUNMERGE 0 0 0x1000 9) 6
     ∷ refuses unfixedPage (PUNMERGE 0 0 0x2000 7) 11
     ∷ refuses noLeaf (PUNMERGE 0 0 0x1000 7) 12
+    ∷ refuses halfEntry (PUNFIX 7 1) 1
     ∷ refuses badEntry (PUNFIX 0 0x1000) 4
     ∷ refuses badEntry (PUNFIX 0 0) 5
     ∷ refuses apart (PUNFIX 0 0x2000) 6
     ∷ refuses owned (PUNFIX 0 0) 11
     ∷ refuses noLeaf (PUNFIX 0 0) 12
+    ∷ refuses halfEntry (READ 512 1 0 2 2 3) 1
     ∷ refuses badEntry (READ 7 0x50000 0 2 1 3) 6
     ∷ refuses noLeaf (READ 9 0x60000 0 2 2 3) 12
     ∷ refuses mergedPage (READ 8 0x60000 0 2 2 3) 13
+    ∷ refuses halfEntry (WRITE 512 1 0 2 2 3 0x2b) 1
+    ∷ refuses owned (WRITE 0 1 0 2 2 3 0x2b) 2
+    ∷ refuses owned (WRITE 0 0x50000 0x1000 2 2 3 0x2b) 3
+    ∷ refuses owned (WRITE 7 0x50000 0x1000 1 2 3 0x2b) 4
+    ∷ refuses badEntry (WRITE 7 0x50000 0 2 2 3 0x2b) 5
+    ∷ refuses unopened (WRITE 9 0x60000 0 2 2 3 0x2b) 7
+    ∷ refuses unopened (WRITE 7 0x60000 0 2 2 3 0x2b) 8
+    ∷ refuses unopened (WRITE 7 0x50000 0 2 2 3 0x2b) 9
     ∷ []
 
 -- places: the state, the guest, the address, and how many
