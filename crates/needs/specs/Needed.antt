@@ -1,6 +1,5 @@
 -- What a row of the table asks, as a chain of checks: types before flags, FIXED before VALIDATED, the first named frame before the second.
 -- Only promises of private functions name these. The public gates promise the rules' own chains.
-use mathlib.Core.Bool.{Bool}
 use Prim.Native.Nat.{ℕ}
 use lib.Dec.{eqb}
 use Rattle.words.specs.Choice.{pick, _and_}

@@ -1,5 +1,5 @@
 -- 01, "The calls": "The needed type and flags of each named frame, by instruction, stand in one constant table". This is the table, row
--- for row; that it says what the rules say is shown where the gates of src/gates.rt are proved.
+-- for row. That each row says what its rule says, cell by cell, is what the promises of the gates in src/gates.rt come to.
 use mathlib.Core.Bool.{Bool, true, not}
 use mathlib.Core.List.{List, [], _∷_}
 use Prim.Native.Nat.{ℕ}

@@ -96,8 +96,8 @@ fn two_frames(row: Row, one: Entry, two: Entry) -> Gate
 {
     let first = row.0;
     let second = row.1;
-    let flagged2 = flags(second, two, Gate::Open);
-    let flagged = flags(first, one, flagged2);
+    let rest = flags(second, two, Gate::Open);
+    let flagged = flags(first, one, rest);
     go_on(
         first.kind_met(one.kind, 0) & second.kind_met(two.kind, 0),
         Refusal::PageType,
