@@ -9,11 +9,10 @@ ghost use Rattle.rules.specs.State.{state};
 ghost use Rattle.checks.specs.Answer.{told, gave};
 ghost use Rattle.checks.specs.Passed.{withPage};
 use checks::answer::Answer;
-use checks::answer::Refusal;
 use checks::begin;
 use checks::gate::Gate;
+use checks::pages;
 use checks::passed::Page;
-use entries::entry::Decoded;
 use entries::entry::Entry;
 use entries::entry::frame_of;
 use entries::table;
@@ -56,17 +55,15 @@ fn check_update(
         grant (updateAnswer old) (assigning (state (now (table .entry)) (now (memory .entry))) (frameOf hpa) old gpa asid kind)) ⌝ }
 {
     let begun = begin::rmpupdate(table, memory, caller, hpa, gpa, asid, kind);
-    if let Gate::Shut(refusal) = begun {
-        return Page::Refused(refusal);
-    }
-    let Decoded::Good(old) = table::read(table, frame_of(hpa)) else {
-        return Page::Refused(Refusal::BadEntry);
+    let named = pages::first(table, begun, hpa);
+    let Page::Good(old) = named else {
+        return named;
     };
     let met = gates::rmpupdate(old);
     if let Gate::Shut(refusal) = met {
         return Page::Refused(refusal);
     }
-    Page::Good(old)
+    named
 }
 
 fn assign(

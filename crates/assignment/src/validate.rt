@@ -7,11 +7,10 @@ ghost use Rattle.rules.specs.State.{state};
 ghost use Rattle.checks.specs.Answer.{told, gave};
 ghost use Rattle.checks.specs.Passed.{withPage};
 use checks::answer::Answer;
-use checks::answer::Refusal;
 use checks::begin;
 use checks::gate::Gate;
+use checks::pages;
 use checks::passed::Page;
-use entries::entry::Decoded;
 use entries::entry::Entry;
 use entries::entry::frame_of;
 use entries::table;
@@ -45,17 +44,15 @@ fn check_validate(table: &[u64], memory: &[u64], caller: u64, gpa: u64, hpa: u64
         grant (validateAnswer page) (validating (state (now (table .entry)) (now (memory .entry))) (frameOf hpa) page)) ⌝ }
 {
     let begun = begin::pvalidate(table, memory, caller, gpa, hpa, kind);
-    if let Gate::Shut(refusal) = begun {
-        return Page::Refused(refusal);
-    }
-    let Decoded::Good(page) = table::read(table, frame_of(hpa)) else {
-        return Page::Refused(Refusal::BadEntry);
+    let named = pages::first(table, begun, hpa);
+    let Page::Good(page) = named else {
+        return named;
     };
     let met = gates::pvalidate(page, caller, gpa, kind);
     if let Gate::Shut(refusal) = met {
         return Page::Refused(refusal);
     }
-    Page::Good(page)
+    named
 }
 
 fn validate_answer(page: Entry) -> Answer

@@ -1,5 +1,5 @@
--- The code's answers and refusals in the words and numbers of the rules, and what a chain of checks in code, and what it comes to, stand
--- for.
+-- The code's answers and refusals in the words and numbers of the rules, what a chain of checks in code stands for, and what checks come to.
 pub mod Answer
 pub mod Gate
+pub mod Pages
 pub mod Passed

@@ -5,14 +5,14 @@ ghost use Rattle.rules.specs.Answers.{done, grant, settle};
 ghost use Rattle.rules.specs.Merging.{fixing, pfix};
 ghost use Rattle.rules.specs.State.{state};
 ghost use Rattle.checks.specs.Answer.{gave};
-ghost use Rattle.checks.specs.Passed.{withPage};
+ghost use Rattle.checks.specs.Passed.{withPages};
 use crate::scan;
 use checks::answer::Answer;
 use checks::answer::Refusal;
 use checks::begin;
 use checks::gate::Gate;
-use checks::passed::Page;
-use entries::entry::Decoded;
+use checks::pages;
+use checks::passed::Pages;
 use entries::entry::Entry;
 use entries::entry::frame_of;
 use entries::leaf::present_at;
@@ -26,8 +26,8 @@ pub fn pfix(table: &mut [u64], memory: &mut [u64], caller: u64, hpa: u64, leaf: 
         ≡ pfix (state (now (table .entry)) (now (memory .entry))) caller hpa leaf ⌝ }
 {
     match check_fix(table, memory, caller, hpa, leaf) {
-        Page::Refused(refusal) => Answer::Refused(refusal),
-        Page::Good(old) => {
+        Pages::Refused(refusal) => Answer::Refused(refusal),
+        Pages::Good(old, _) => {
             fix(table, memory, frame_of(hpa), old, leaf);
             Answer::Done
         }
@@ -35,30 +35,26 @@ pub fn pfix(table: &mut [u64], memory: &mut [u64], caller: u64, hpa: u64, leaf: 
 }
 
 // The table is looked through only where all else has passed.
-fn check_fix(table: &[u64], memory: &[u64], caller: u64, hpa: u64, leaf: u64) -> Page
+fn check_fix(table: &[u64], memory: &[u64], caller: u64, hpa: u64, leaf: u64) -> Pages
     ensures { λ r. ⌜ pfix (state (now (table .entry)) (now (memory .entry))) caller hpa leaf
-        ≡ settle (state (now (table .entry)) (now (memory .entry))) (withPage r λ old.
+        ≡ settle (state (now (table .entry)) (now (memory .entry))) (withPages r λ old leaf-entry.
         grant done (fixing (state (now (table .entry)) (now (memory .entry))) (frameOf hpa) old leaf)) ⌝ }
 {
     let begun = begin::two_frames(table, memory, caller, hpa, leaf);
-    if let Gate::Shut(refusal) = begun {
-        return Page::Refused(refusal);
-    }
-    let Decoded::Good(old) = table::read(table, frame_of(hpa)) else {
-        return Page::Refused(Refusal::BadEntry);
-    };
-    let Decoded::Good(leaf_entry) = table::read(table, frame_of(leaf)) else {
-        return Page::Refused(Refusal::BadEntry);
+    let first = pages::first(table, begun, hpa);
+    let named = pages::second(table, first, leaf);
+    let Pages::Good(old, leaf_entry) = named else {
+        return named;
     };
     let met = gates::pfix(old, leaf_entry);
     if let Gate::Shut(refusal) = met {
-        return Page::Refused(refusal);
+        return Pages::Refused(refusal);
     }
     let used = scan::leaf_in_use(table, leaf);
     if used {
-        return Page::Refused(Refusal::LeafInUse);
+        return Pages::Refused(Refusal::LeafInUse);
     }
-    Page::Good(old)
+    named
 }
 
 fn fix(table: &mut [u64], memory: &mut [u64], frame: usize, old: Entry, leaf: u64)

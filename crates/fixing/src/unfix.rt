@@ -12,8 +12,9 @@ use checks::answer::Refusal;
 use checks::begin;
 use checks::gate::Gate;
 use checks::leaves;
+use checks::pages;
+use checks::passed::Page;
 use checks::passed::Place;
-use entries::entry::Decoded;
 use entries::entry::Entry;
 use entries::entry::frame_of;
 use entries::leaf::LeafWord;
@@ -41,11 +42,9 @@ fn check_unfix(table: &[u64], memory: &[u64], caller: u64, hpa: u64) -> Place
         grant done (unfixing (state (now (table .entry)) (now (memory .entry))) (frameOf hpa) old gpa)) ⌝ }
 {
     let begun = begin::punfix(table, memory, caller, hpa);
-    if let Gate::Shut(refusal) = begun {
-        return Place::Refused(refusal);
-    }
-    let Decoded::Good(old) = table::read(table, frame_of(hpa)) else {
-        return Place::Refused(Refusal::BadEntry);
+    let old = match pages::first(table, begun, hpa) {
+        Page::Refused(refusal) => return Place::Refused(refusal),
+        Page::Good(page) => page,
     };
     let met = gates::punfix(old);
     if let Gate::Shut(refusal) = met {

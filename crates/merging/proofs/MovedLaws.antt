@@ -1,7 +1,7 @@
 -- PUNMERGE's entry 2 is entry 1 moved: an open gate says that the page is fixed, and a fixed page in the table is MERGEABLE and
 -- VALIDATED.
 -- Assumes nothing.
-use mathlib.Core.Path.{_≡_, refl, sym, _∙_}
+use mathlib.Core.Path.{_≡_, refl}
 use mathlib.Core.Bool.{Bool, true, false}
 use mathlib.Core.List.{List, []}
 use Prim.Native.Nat.{ℕ}
@@ -10,7 +10,6 @@ use Rattle.words.specs.Choice.{pick}
 use Rattle.entries.specs.Entry.{MERGEABLE, entry, toMoved}
 use Rattle.entries.specs.Table.{entryIn}
 use Rattle.entries.specs.declared.entry.Entry.{Entry}
-use Rattle.entries.specs.declared.entry.Decoded.{Decoded}
 use Rattle.entries.specs.declared.entry.Decoded.the-variants.{Good}
 use Rattle.entries.proofs.TableLaws.{entry-good}
 use Rattle.entries.proofs.Tells.{tells, moved-is}
@@ -32,12 +31,12 @@ second-passed s true m n through = refl
 second-passed true false m n through = refuses n (through (grant done (emptyTable 0 [])))
 second-passed false false m n through = refuses m (through (grant done (emptyTable 0 [])))
 
--- `got` is what the call read at the frame, and `gate` the gate that it passed
+-- `gate` is the gate that the call passed
 pub moved :
-    (t : List ℕ) (frame : ℕ) (one : Entry) (kinds : Bool) (got : Decoded) (gate : Gate) → got ≡ entryIn t frame → got ≡ Good one
+    (t : List ℕ) (frame : ℕ) (one : Entry) (kinds : Bool) (gate : Gate) → entryIn t frame ≡ Good one
     → ((v : Verdict) → past gate v ≡ unless kinds TYPE (unless (one .fixed) NOT-FIXED v)) → gate ≡ Open
     → (asid gpa : ℕ) → toMoved one asid gpa ≡ entry asid MERGEABLE true false gpa
 unfolding past
-moved t frame one kinds got gate read good gated is-open asid gpa =
-    moved-is _ one asid gpa (tells _ one (entry-good t frame one (sym read ∙ good) .1))
+moved t frame one kinds gate good gated is-open asid gpa =
+    moved-is _ one asid gpa (tells _ one (entry-good t frame one good .1))
     (second-passed kinds (one .fixed) TYPE NOT-FIXED (rw is-open at gated))

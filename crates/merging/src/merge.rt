@@ -11,8 +11,8 @@ use checks::answer::Refusal;
 use checks::begin;
 use checks::gate::Gate;
 use checks::leaves;
+use checks::pages;
 use checks::passed::Pages;
-use entries::entry::Decoded;
 use entries::entry::Entry;
 use entries::entry::frame_of;
 use entries::leaf::present_at;
@@ -41,16 +41,10 @@ fn check_merge(table: &[u64], memory: &[u64], caller: u64, hpa1: u64, hpa2: u64)
         grant done (merging (state (now (table .entry)) (now (memory .entry))) one (frameOf hpa2) two)) ⌝ }
 {
     let begun = begin::two_frames(table, memory, caller, hpa1, hpa2);
-    if let Gate::Shut(refusal) = begun {
-        return Pages::Refused(refusal);
-    }
-    let frame1 = frame_of(hpa1);
-    let Decoded::Good(one) = table::read(table, frame1) else {
-        return Pages::Refused(Refusal::BadEntry);
-    };
-    let frame2 = frame_of(hpa2);
-    let Decoded::Good(two) = table::read(table, frame2) else {
-        return Pages::Refused(Refusal::BadEntry);
+    let first = pages::first(table, begun, hpa1);
+    let named = pages::second(table, first, hpa2);
+    let Pages::Good(one, two) = named else {
+        return named;
     };
     let met = gates::pmerge(one, two);
     if let Gate::Shut(refusal) = met {
@@ -60,9 +54,9 @@ fn check_merge(table: &[u64], memory: &[u64], caller: u64, hpa1: u64, hpa2: u64)
     if let Gate::Shut(refusal) = free {
         return Pages::Refused(refusal);
     }
-    let equal = frame::differing(memory, frame1, frame2) == 0;
+    let equal = frame::differing(memory, frame_of(hpa1), frame_of(hpa2)) == 0;
     if equal {
-        return Pages::Good(one, two);
+        return named;
     }
     Pages::Refused(Refusal::Contents)
 }

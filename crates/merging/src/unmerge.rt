@@ -12,8 +12,9 @@ use checks::answer::Refusal;
 use checks::begin;
 use checks::gate::Gate;
 use checks::leaves;
+use checks::pages;
+use checks::passed::Pages;
 use checks::passed::Place;
-use entries::entry::Decoded;
 use entries::entry::Entry;
 use entries::entry::frame_of;
 use entries::leaf::LeafWord;
@@ -63,23 +64,20 @@ fn check_unmerge(
         grant done (moving (state (now (table .entry)) (now (memory .entry))) (frameOf hpa1) one (frameOf hpa2) asid gpa)) ⌝ }
 {
     let begun = begin::punmerge(table, memory, caller, hpa1, hpa2, asid);
-    if let Gate::Shut(refusal) = begun {
-        return Place::Refused(refusal);
-    }
-    let Decoded::Good(one) = table::read(table, frame_of(hpa1)) else {
-        return Place::Refused(Refusal::BadEntry);
-    };
-    let Decoded::Good(two) = table::read(table, frame_of(hpa2)) else {
-        return Place::Refused(Refusal::BadEntry);
-    };
-    let met = gates::punmerge(one, two);
-    if let Gate::Shut(refusal) = met {
-        return Place::Refused(refusal);
-    }
-    match leaves::consulted(table, memory, one, asid) {
-        LeafWord::Misshapen => Place::Refused(Refusal::BrokenLeaf),
-        LeafWord::Absent => Place::Refused(Refusal::NoPlace),
-        LeafWord::Present(gpa) => Place::Good(one, gpa),
+    let first = pages::first(table, begun, hpa1);
+    match pages::second(table, first, hpa2) {
+        Pages::Refused(refusal) => Place::Refused(refusal),
+        Pages::Good(one, two) => {
+            let met = gates::punmerge(one, two);
+            if let Gate::Shut(refusal) = met {
+                return Place::Refused(refusal);
+            }
+            match leaves::consulted(table, memory, one, asid) {
+                LeafWord::Misshapen => Place::Refused(Refusal::BrokenLeaf),
+                LeafWord::Absent => Place::Refused(Refusal::NoPlace),
+                LeafWord::Present(gpa) => Place::Good(one, gpa),
+            }
+        }
     }
 }
 

@@ -15,7 +15,7 @@ use Rattle.entries.specs.declared.entry.Decoded.{Decoded}
 use Rattle.entries.specs.declared.entry.Decoded.the-variants.{Good}
 use Rattle.entries.specs.declared.leaf.LeafWord.the-variants.{Absent, Present}
 use Rattle.rules.specs.Access.{unfixedAccess, fixedAccess, coveredAccess, access, read, write}
-use Rattle.rules.specs.Answers.{refused, done, word, count, Outcome, outcome, Verdict, settle, unless}
+use Rattle.rules.specs.Answers.{refused, done, word, count, Outcome, outcome, Verdict, settle, unless, bothEntered}
 use Rattle.rules.specs.Arguments.{isHost, updateArguments, validateArguments, twoFrameArguments, unmergeArguments}
 use Rattle.rules.specs.Arguments.{oneFrameArguments, accessArguments, mayAccess}
 use Rattle.rules.specs.Assignment.{assigning, updateAnswer, rmpupdate, validating, validateAnswer, pvalidate}
@@ -200,7 +200,7 @@ module _ (P : Outcome → Type 0) (s : State) (no : (n : ℕ) → Reason s n →
   pub pfix-cases : (caller hpa leaf : ℕ)
       → ((old : Entry) → Fixed s caller hpa leaf old → P (outcome done (fixing s (frameOf hpa) old leaf)))
       → P (pfix s caller hpa leaf)
-  unfolding pfix
+  unfolding pfix bothEntered
   pfix-cases caller hpa leaf ok =
       begun P s no _ _ _ _ λ size arguments host inside.
       decoded-by P s no _ _ (covered-frame s _ (and-left _ _ inside)) λ old here.
@@ -228,7 +228,7 @@ module _ (P : Outcome → Type 0) (s : State) (no : (n : ℕ) → Reason s n →
   pub pmerge-cases : (caller hpa1 hpa2 : ℕ)
       → ((one two : Entry) → Merged s caller hpa1 hpa2 one two → P (outcome done (merging s one (frameOf hpa2) two)))
       → P (pmerge s caller hpa1 hpa2)
-  unfolding pmerge
+  unfolding pmerge bothEntered
   pmerge-cases caller hpa1 hpa2 ok =
       begun P s no _ _ _ _ λ size arguments host inside.
       decoded-by P s no _ _ (covered-frame s _ (and-left _ _ inside)) λ one here1.
@@ -262,7 +262,7 @@ module _ (P : Outcome → Type 0) (s : State) (no : (n : ℕ) → Reason s n →
       → ((one two : Entry) (gpa : ℕ) → Unmerged s caller hpa1 hpa2 asid one two gpa
       → P (outcome done (unmerging s (frameOf hpa1) one (frameOf hpa2) asid gpa)))
       → P (punmerge s caller hpa1 hpa2 asid)
-  unfolding punmerge
+  unfolding punmerge bothEntered
   punmerge-cases caller hpa1 hpa2 asid ok =
       begun P s no _ _ _ _ λ size arguments host inside.
       decoded-by P s no _ _ (covered-frame s _ (and-left _ _ inside)) λ one here1.

@@ -60,3 +60,7 @@ begins s arguments party inside rest =
 unfoldable pub entered : Decoded → (Entry → Verdict) → Verdict
 entered (Good e) rest = rest e
 entered Bad rest = refuse BAD-ENTRY
+
+-- "5 (both)": the entry of the first named frame, then that of the second
+unfoldable pub bothEntered : Decoded → Decoded → (Entry → Entry → Verdict) → Verdict
+bothEntered one two rest = entered one λ e. entered two λ f. rest e f

@@ -6,7 +6,7 @@ use Rattle.words.specs.Choice.{_and_}
 use Rattle.entries.specs.Entry.{SHARED, MERGEABLE, LEAF, frameOf, entry, zeroEntry, toFixed, toUnfixed}
 use Rattle.entries.specs.Leaf.{presentAt}
 use Rattle.entries.specs.declared.entry.Entry.{Entry}
-use Rattle.rules.specs.Answers.{done, Outcome, grant, settle, unless, when, begins, entered}
+use Rattle.rules.specs.Answers.{done, Outcome, grant, settle, unless, when, begins, entered, bothEntered}
 use Rattle.rules.specs.Arguments.{isHost, twoFrameArguments, unmergeArguments, oneFrameArguments}
 use Rattle.rules.specs.Leaves.{leafFrame, consulted, placed, vacant, leafInUse, stillShared}
 use Rattle.rules.specs.Refusals.{TYPE, NOT-VALIDATED, FIXED, NOT-FIXED, LEAF-IN-USE, CONTENTS, STILL-SHARED}
@@ -22,8 +22,7 @@ unfoldable pub pfix : State → ℕ → ℕ → ℕ → Outcome
 pfix s caller hpa leaf =
     settle s
     (begins s (twoFrameArguments caller hpa leaf) (isHost caller) (covers s hpa and covers s leaf)
-    (entered (entryAt s (frameOf hpa)) λ old.
-    entered (entryAt s (frameOf leaf)) λ leafEntry.
+    (bothEntered (entryAt s (frameOf hpa)) (entryAt s (frameOf leaf)) λ old leafEntry.
     unless (eqb (old .kind) MERGEABLE and eqb (leafEntry .kind) LEAF) TYPE
     (when (old .fixed) FIXED
     (unless (old .validated) NOT-VALIDATED
@@ -40,8 +39,7 @@ unfoldable pub pmerge : State → ℕ → ℕ → ℕ → Outcome
 pmerge s caller hpa1 hpa2 =
     settle s
     (begins s (twoFrameArguments caller hpa1 hpa2) (isHost caller) (covers s hpa1 and covers s hpa2)
-    (entered (entryAt s (frameOf hpa1)) λ one.
-    entered (entryAt s (frameOf hpa2)) λ two.
+    (bothEntered (entryAt s (frameOf hpa1)) (entryAt s (frameOf hpa2)) λ one two.
     unless (eqb (one .kind) MERGEABLE and eqb (two .kind) MERGEABLE) TYPE
     (unless (one .fixed) NOT-FIXED
     (when (two .fixed) FIXED
@@ -60,8 +58,7 @@ unfoldable pub punmerge : State → ℕ → ℕ → ℕ → ℕ → Outcome
 punmerge s caller hpa1 hpa2 asid =
     settle s
     (begins s (unmergeArguments caller hpa1 hpa2 asid) (isHost caller) (covers s hpa1 and covers s hpa2)
-    (entered (entryAt s (frameOf hpa1)) λ one.
-    entered (entryAt s (frameOf hpa2)) λ two.
+    (bothEntered (entryAt s (frameOf hpa1)) (entryAt s (frameOf hpa2)) λ one two.
     unless (eqb (one .kind) MERGEABLE and eqb (two .kind) SHARED) TYPE
     (unless (one .fixed) NOT-FIXED
     (placed (consulted s one asid) λ gpa.

@@ -8,7 +8,7 @@ use Rattle.entries.specs.Entry.{addressFits, wellFormed, fields, decoded, bit, 
 use Rattle.entries.specs.Leaf.{leafWord, presentAt}
 use Rattle.entries.specs.Table.{covered, isWhole, entryIn, putEntry}
 use Rattle.rules.specs.Access.{unfixedAccess, fixedAccess, coveredAccess, access, read, write}
-use Rattle.rules.specs.Answers.{Outcome, settle, unless, when, begins, entered}
+use Rattle.rules.specs.Answers.{Outcome, settle, unless, when, begins, entered, bothEntered}
 use Rattle.rules.specs.Arguments.{isHost, updateArguments, validateArguments, twoFrameArguments, unmergeArguments}
 use Rattle.rules.specs.Arguments.{oneFrameArguments, accessArguments, mayAccess}
 use Rattle.rules.specs.Assignment.{assigning, updateAnswer, rmpupdate, validating, validateAnswer, pvalidate}
@@ -22,7 +22,7 @@ unfoldable pub computed : State → Call → Outcome
 unfolding pick _and_ _or_ frameCount isFramed wordIn putWord zeroFrame copyFrame differingIn part pasted copiedWithin differing
     isAddress isOwned isUnowned entry zeroEntry asidFits flagsFit addressFits wellFormed fields decoded bit encoded toValidated
     toFixed toUnfixed leafWord presentAt covered isWhole entryIn putEntry unfixedAccess fixedAccess coveredAccess access read
-    write settle unless when begins entered isParty isGuest isHost updateArguments validateArguments twoFrameArguments unmergeArguments oneFrameArguments
+    write settle unless when begins entered bothEntered isParty isGuest isHost updateArguments validateArguments twoFrameArguments unmergeArguments oneFrameArguments
     accessArguments mayAccess assigning updateAnswer rmpupdate validating validateAnswer pvalidate step inLeaf inEntry holding counted tally
     reported census leafFrame isLeaf consulted placed vacant namesLeaf leafInUse isSharedBy stillShared fixing pfix merging pmerge
     unmerging punmerge unfixing punfix N M sized covers frameOf entryAt wordAt differingAt withEntry withWord withZeros withCopy
