@@ -2,10 +2,10 @@
 -- call is the rules' outcome of it. So what the rules' theorem says of every history holds of every run of the code.
 -- Assumes nothing.
 use mathlib.Core.Path.{_≡_, refl, ap, sym, _∙_}
-use mathlib.Core.List.{List, [], _∷_}
+use mathlib.Core.List.{[], _∷_}
 use Rattle.rules.specs.Calls as rules
 use Rattle.rules.specs.History.{history, finally}
-use Rattle.rules.specs.State.{State, emptyTable}
+use Rattle.rules.specs.State.{emptyTable}
 use Rattle.rules.proofs.History.{no-counter-goes-back}
 use Rattle.monitor.specs.Call.{called}
 use Rattle.monitor.specs.Run.{left, none, next, asMade, ended, calls, RunIsHistory, CodeDemand3}

@@ -4,7 +4,6 @@
 use borrow.Author.Needs.{needs}
 use Rattle.words.specs.Choice.{pick}
 use Rattle.rules.specs.Answers.{unless}
-use Rattle.rules.specs.Leaves.{vacant}
 use Rattle.rules.specs.Merging.{pmerge}
 use Rattle.rules.specs.State.{entryAt, differingAt}
 use Rattle.checks.proofs.PagesLaws.{pages-entered}
@@ -68,7 +67,7 @@ enum-known-free : tie.Need-enum-known-free
 enum-known-free c = search needs
 
 returns-3 : tie.Need-returns-3
-unfolding pmerge withPages entryAt past vacant
+unfolding pmerge withPages entryAt past
 returns-3 c =
     let at-free = c .before in let at-vacant = at-free .before .before in let at-consulted = at-vacant .before in
     let at-enum-told2 = at-consulted .before in let at-pmerge = at-enum-told2 .before .before in
@@ -99,7 +98,7 @@ differing-requires : tie.Need-differing-requires
 differing-requires c κs = search needs
 
 returns-4 : tie.Need-returns-4
-unfolding pmerge withPages entryAt past vacant differingAt unless pick
+unfolding pmerge withPages entryAt past differingAt unless pick
 returns-4 c =
     let at-differing = c .before in let at-frame-of2 = at-differing .before in let at-frame-of = at-frame-of2 .before in
     let at-enum-told3 = at-frame-of .before in let at-vacant = at-enum-told3 .before .before in let at-consulted = at-vacant .before in
@@ -123,7 +122,7 @@ returns-4 c =
     )
 
 returns-5 : tie.Need-returns-5
-unfolding pmerge withPages entryAt past vacant differingAt unless pick
+unfolding pmerge withPages entryAt past differingAt unless pick
 returns-5 c =
     let at-differing = c .before in let at-frame-of2 = at-differing .before in let at-frame-of = at-frame-of2 .before in
     let at-enum-told3 = at-frame-of .before in let at-vacant = at-enum-told3 .before .before in let at-consulted = at-vacant .before in
