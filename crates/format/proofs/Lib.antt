@@ -1,0 +1,23 @@
+-- The laws of the format, which proofs cite instead of opening the definitions, and the proofs of what is claimed of it.
+pub mod AskLaws
+pub mod AskedLaws
+pub mod Cut
+pub mod Digit
+pub mod Digits
+pub mod Fields
+pub mod LineLaws
+pub mod Lines
+pub mod LongLine
+pub mod NumberLaws
+pub mod Pieces
+pub mod PlaceLaws
+pub mod ReadLaws
+pub mod ResponseLaws
+pub mod Room
+pub mod RoundTrip
+pub mod SaidLaws
+pub mod Tells
+pub mod TextKeeps
+pub mod Texts
+pub mod UpTo
+pub mod Without

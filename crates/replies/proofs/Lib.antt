@@ -1,0 +1,3 @@
+-- The laws that the proofs of `replies`, and of the crates above it, cite.
+pub mod BufferLaws
+pub mod DigitsLaws

@@ -1,0 +1,32 @@
+-- `replies::digits::digit` meets its contract: the test is the definition's.
+-- Assumes nothing.
+use borrow.Author.Needs.{needs}
+use borrow.Author.Tests.{lt-ltb, le-ltb}
+use Rattle.words.specs.Choice.{pick}
+use Rattle.format.specs.Number as Number
+use Rattle.replies.proofs.digits.digit.Statement.{statement}
+use Rattle.replies.proofs.digits.digit.Tie as tie
+
+cast-result : tie.Need-cast-result
+cast-result c = search needs
+
+add-result : tie.Need-add-result
+add-result c = search needs
+
+cast-result-2 : tie.Need-cast-result-2
+cast-result-2 c = search needs
+
+add-result-2 : tie.Need-add-result-2
+add-result-2 c = search needs
+
+returns : tie.Need-returns
+unfolding Number.digit pick
+returns c = rw (lt-ltb _ _ (c .if1 .taken))
+
+returns-2 : tie.Need-returns-2
+unfolding Number.digit pick
+returns-2 c = rw (le-ltb _ _ (c .if1 .left))
+
+pub digit-spec : {M : Type 1} → statement M
+digit-spec =
+    tie.close (tie.spec cast-result add-result cast-result-2 add-result-2 returns returns-2)
