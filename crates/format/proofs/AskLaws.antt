@@ -1,4 +1,5 @@
--- The fields of a line taken one by one, beside the numbers that were taken before them: a field that is a number joins those, any other field makes the line wrong, and so does an eighth number.
+-- The fields of a line taken one by one, beside the numbers that were taken before them: a field that is a number joins those, any other
+-- field makes the line wrong, and so does an eighth number.
 -- Assumes nothing.
 use mathlib.Core.Path.{_≡_, refl, sym, ap, _∙_}
 use mathlib.Core.Bool.{true, false}
@@ -33,7 +34,9 @@ module _ (letter : ℕ) where
 
   module _ (got : List ℕ) where
     -- ---- a field
-    takes : (field : List ℕ) (others : List (List ℕ)) → isNumber field ≡ true → asksOn got (field ∷ others) ≡ asksOn (got ++ (value field ∷ [])) others
+    takes :
+        (field : List ℕ) (others : List (List ℕ)) → isNumber field ≡ true
+        → asksOn got (field ∷ others) ≡ asksOn (got ++ (value field ∷ [])) others
     unfolding asksOn areNumbers _and_
     takes field others h = rw (h, append-snoc got (value field) (map value others))
 
@@ -58,10 +61,14 @@ module _ (letter : ℕ) where
       whole : length bytes ≤ length first → first ≡ bytes
       whole h = sym (up-to-take (code " ") bytes) ∙ take-all (length first) bytes h
 
-      pub asks-next : length first < length bytes → isNumber first ≡ true → asksOn got (fields bytes) ≡ asksOn (got ++ (value first ∷ [])) after
+      pub asks-next :
+          length first < length bytes → isNumber first ≡ true
+          → asksOn got (fields bytes) ≡ asksOn (got ++ (value first ∷ [])) after
       asks-next h n = rw (fields-more bytes h) (takes first after n)
 
-      pub asks-last : length bytes ≤ length first → isNumber first ≡ true → asksOn got (fields bytes) ≡ asked letter (got ++ (value first ∷ []))
+      pub asks-last :
+          length bytes ≤ length first → isNumber first ≡ true
+          → asksOn got (fields bytes) ≡ asked letter (got ++ (value first ∷ []))
       asks-last h n =
           let alone : fields bytes ≡ first ∷ [] = fields-one bytes h ∙ ap (λ (b : List ℕ). b ∷ []) (sym (whole h)) in
           ap (asksOn got) alone ∙ takes first [] n ∙ ends (got ++ (value first ∷ []))

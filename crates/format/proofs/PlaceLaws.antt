@@ -1,4 +1,5 @@
--- The line at a place of a text: where it ends, which place comes after it, and that the lines from a place on are the line there and those after it.
+-- The line at a place of a text: where it ends, which place comes after it, and that the lines from a place on are the line there and
+-- those after it.
 -- Assumes nothing.
 use mathlib.Core.Path.{_≡_, ap, _∙_}
 use mathlib.Core.List.{List, [], _∷_}
@@ -17,7 +18,9 @@ use Rattle.format.proofs.Lines.{lines-empty, lines-feed, lines-byte}
 use Rattle.format.proofs.UpTo.{up-to-none, up-to-here, up-to-past, up-to-within}
 
 -- ---- the first line of a text
-lines-first : (byte : ℕ) (rest : List ℕ) → lines (byte ∷ rest) ≡ upTo LF (byte ∷ rest) ∷ lines (drop (length (upTo LF (byte ∷ rest))) rest)
+lines-first :
+    (byte : ℕ) (rest : List ℕ)
+    → lines (byte ∷ rest) ≡ upTo LF (byte ∷ rest) ∷ lines (drop (length (upTo LF (byte ∷ rest))) rest)
 unfolding longer
 lines-first byte [] =
     ⊎-elim
@@ -87,6 +90,7 @@ module _ (text : List ℕ) (at : ℕ) where
     lines-at =
         let n = length (upTo LF (drop at text)) in
         let cons = drop-cons text at 0 h in
-        let first : lines (drop at text) ≡ upTo LF (drop at text) ∷ lines (drop n (drop (suc at) text)) = rw (cons) (lines-first _ _) in
-        let moved : drop n (drop (suc at) text) ≡ drop (suc end) text = drop-drop n (suc at) text ∙ ap (λ (k : ℕ). drop k text) (suc-add at n) in
+        let first : lines (drop at text) ≡ upTo LF (drop at text) ∷ lines (drop n (drop (suc at) text)) = rw cons (lines-first _ _) in
+        let moved : drop n (drop (suc at) text) ≡ drop (suc end) text =
+        drop-drop n (suc at) text ∙ ap (λ (k : ℕ). drop k text) (suc-add at n) in
         first ∙ ap (λ (r : List ℕ). upTo LF (drop at text) ∷ lines r) (moved ∙ rest-is)

@@ -1,4 +1,5 @@
--- Digits read one by one: what is left to test and to add at a place, how large the value of so many digits is, and when a field is a number.
+-- Digits read one by one: what is left to test and to add at a place, how large the value of so many digits is, and when a field is a
+-- number.
 -- Assumes nothing.
 use mathlib.Core.Path.{_≡_, refl}
 use mathlib.Core.Bool.{true, false}

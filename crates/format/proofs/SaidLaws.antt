@@ -1,4 +1,5 @@
--- What a line says, by its length and its first two bytes: one letter, then a space, then the fields of the rest; any other beginning is wrong.
+-- What a line says, by its length and its first two bytes: one letter, then a space, then the fields of the rest; any other beginning is
+-- wrong.
 -- Assumes nothing.
 use mathlib.Core.Path.{_≡_, refl, ap, _∙_}
 use mathlib.Core.Bool.{Bool, true, false}
@@ -48,7 +49,9 @@ unfolding spoken begun longer
 begun-two letter byte [] = refl
 begun-two letter byte (first ∷ others) = refl
 
-spoken-two : (letter byte : ℕ) (rest : List ℕ) → letter ≢ code " " → byte ≢ code " " → spoken (fields (letter ∷ byte ∷ rest)) ≡ wrong
+spoken-two :
+    (letter byte : ℕ) (rest : List ℕ) → letter ≢ code " " → byte ≢ code " "
+    → spoken (fields (letter ∷ byte ∷ rest)) ≡ wrong
 spoken-two letter byte rest e f = rw (fields-byte letter (byte ∷ rest) e, fields-byte byte rest f) (begun-two letter byte (fields rest))
 
 spoken-one : (letter : ℕ) → letter ≢ code " " → spoken (fields (letter ∷ [])) ≡ wrong
@@ -78,7 +81,9 @@ begun-one : (letter : ℕ) (others : List (List ℕ)) → spoken (longer letter 
 unfolding spoken begun longer
 begun-one letter others = refl
 
-pub said-asks : (line : List ℕ) → length line ≤ 120 → 2 ≤ length line → getD line 1 0 ≡ code " " → said line ≡ asks (getD line 0 0) (fields (drop 2 line))
+pub said-asks :
+    (line : List ℕ) → length line ≤ 120 → 2 ≤ length line → getD line 1 0 ≡ code " "
+    → said line ≡ asks (getD line 0 0) (fields (drop 2 line))
 said-asks [] h l e = absurd (omega arith)
 said-asks (letter ∷ []) h l e = absurd (omega arith)
 said-asks (letter ∷ byte ∷ rest) h l e =

@@ -1,2 +1,3 @@
 -- The laws that the proofs of `lines` cite.
 pub mod NumberTold
+pub mod Taken

@@ -1,11 +1,11 @@
--- Why a refusal may have its number: 5 and 12 only where the state has the fault that they name, while nothing is asked of any other
--- number. A holding that fails, and so a tally that stops, has met such a fault.
+-- Why a refusal may have its number: 5 and 12 only where the state has the fault that they name, while of any other number it is only
+-- asked that it is one of the seventeen. A holding that fails, and so a tally that stops, has met such a fault.
 -- Assumes nothing.
 use mathlib.Core.Path.{_≡_, refl}
 use mathlib.Core.Bool.{Bool, true, false, false≢true, not, _&&_}
 use Prim.Native.Nat.{ℕ, zero, suc, _<_, _≤_}
 use native.Mathlib.Omega.{arith}
-use lib.Dec.{eqb}
+use lib.Dec.{leb, eqb}
 use Rattle.words.specs.Choice.{pick}
 use Rattle.entries.specs.declared.entry.Entry.{Entry}
 use Rattle.entries.specs.declared.entry.Decoded.{Decoded}
@@ -14,7 +14,7 @@ use Rattle.entries.specs.declared.leaf.LeafWord.{LeafWord}
 use Rattle.entries.specs.declared.leaf.LeafWord.the-variants.{Absent, Present, Misshapen}
 use Rattle.rules.specs.Census.{Holding, holds, nothing, fails, inLeaf, inEntry, holding, Tally, total, stopped, counted, tally}
 use Rattle.rules.specs.Leaves.{consulted}
-use Rattle.rules.specs.Refusals.{BAD-ENTRY, BROKEN-LEAF}
+use Rattle.rules.specs.Refusals.{BAD-ENTRY, BROKEN-LEAF, STILL-SHARED}
 use Rattle.rules.specs.State.{State, N, entryAt}
 
 -- what is wrong with a state that gives 5 or 12
@@ -24,9 +24,9 @@ pub data Fault (s : State) : ℕ → Type 0 where
       (f : ℕ) (e : Entry) (guest : ℕ) → entryAt s f ≡ Good e → e .fixed ≡ true → consulted s e guest ≡ Misshapen
       → Fault s BROKEN-LEAF
 
--- a number other than those two. It computes at a number that is written out, so that `refl` shows it.
+-- a number up to the last, other than those two. It computes at a number that is written out, so that `refl` shows it.
 abbrev pub ordinary : ℕ → Bool
-ordinary n = not (eqb n BAD-ENTRY) && not (eqb n BROKEN-LEAF)
+ordinary n = leb n STILL-SHARED && not (eqb n BAD-ENTRY) && not (eqb n BROKEN-LEAF)
 
 pub data Reason (s : State) (n : ℕ) : Type 0 where
   plain : ordinary n ≡ true → Reason s n

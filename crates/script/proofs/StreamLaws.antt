@@ -1,7 +1,8 @@
--- The first bytes of a text cut after their last line feed: the whole lines are what stands before the cut, and the unfinished line, or its first 121 bytes, is what is moved down.
+-- The first bytes of a text cut after their last line feed: the whole lines are what stands before the cut, and the unfinished line, or
+-- its first 121 bytes, is what is moved down.
 -- Assumes nothing.
 use mathlib.Core.Path.{_≡_, refl, sym, ap, _∙_}
-use mathlib.Core.List.{List, [], _∷_, _++_}
+use mathlib.Core.List.{List, [], _∷_}
 use mathlib.Core.Logic.{⊎-elim}
 use Prim.Native.Nat.{ℕ, zero, suc, _+_, _-_, _≤_, min}
 use native.Mathlib.Nat.{zero-add}

@@ -11,7 +11,9 @@ returns : tie.Need-returns
 returns c = search needs
 
 slice-aggregate-write-all : tie.Need-slice-aggregate-write-all
-slice-aggregate-write-all c = sym (length-take-le (c .before .before .before .args .printed) (c .before .before .before .args .out .now) (omega arith))
+slice-aggregate-write-all c =
+    let x = c .before .before .before .args in
+    sym (length-take-le (x .printed) (x .out .now) (omega arith))
 
 write-all-requires : tie.Need-write-all-requires
 write-all-requires c κs = search needs

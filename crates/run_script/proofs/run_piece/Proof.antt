@@ -54,8 +54,10 @@ slice-reshare-prefix-run c = search needs
 
 slice-aggregate-run : tie.Need-slice-aggregate-run
 slice-aggregate-run c =
-    let x = c .before .before .before .before .before .before .before .before .before .before .before .before .before .before .before .before .before .args in
-    sym (ap length (take-put (x .kept) (length (x .text .now) - x .kept) (x .text .now) (c .before .before .before .before .before .before .before .before .before .before .read .last .1 .0) (omega arith)) ∙ length-take-le (x .kept) (x .text .now) (omega arith))
+    let got = c .before .before .before .before .before .before .before .before .before .before in
+    let x = got .before .before .before .before .before .before .before .args in
+    let front = take-put (x .kept) (length (x .text .now) - x .kept) (x .text .now) (got .read .last .1 .0) (omega arith) in
+    sym (ap length front ∙ length-take-le (x .kept) (x .text .now) (omega arith))
 
 run-requires : tie.Need-run-requires
 run-requires c κs = search needs

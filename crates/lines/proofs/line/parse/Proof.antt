@@ -1,7 +1,8 @@
--- `lines::line::parse` meets its contract: its tests are on the length and on the second byte, and those decide whether the fields after the first are looked at.
+-- `lines::line::parse` meets its contract: its tests are on the length and on the second byte, and those decide whether the fields after
+-- the first are looked at.
 -- Assumes nothing.
 use mathlib.Core.Path.{_≡_, sym}
-use Prim.Native.Nat.{_-_}
+use Prim.Native.Nat.{_-_, _≤_}
 use native.Mathlib.Omega.{arith}
 use lib.ListN.{length, take, drop, length-drop}
 use lib.Seq.{take-all}
@@ -43,7 +44,8 @@ returns-4 c =
     let line = c .before .before .before .before .before .before .before .before .args .line .now in
     let two = c .before .before .before .before .before in
     let said = said-asks line (two .before .if1 .left) (two .if2 .left) (c .before .before .before .if3 .left) in
-    let rest : take (length line - 2) (drop 2 line) ≡ drop 2 line = take-all (length line - 2) (drop 2 line) (rw (length-drop 2 line) (omega arith)) in
+    let short : length (drop 2 line) ≤ length line - 2 = rw (length-drop 2 line) (omega arith) in
+    let rest : take (length line - 2) (drop 2 line) ≡ drop 2 line = take-all (length line - 2) (drop 2 line) short in
     rw (c .parse-numbers .ensures, rest, said)
 
 pub parse-spec : {M : Type 1} → statement M

@@ -1,42 +1,22 @@
 -- `lines::line::parse_numbers` meets its contract: the numbers taken so far, and the fields that are left, say what all the fields do.
 -- Assumes nothing.
-use mathlib.Core.Path.{_≡_, refl, sym, ap, _∙_}
-use mathlib.Core.List.{List, [], _∷_, _++_}
+use mathlib.Core.Path.{_≡_, refl, sym, _∙_}
 use Prim.Native.Char.{code}
-use Prim.Native.Nat.{ℕ, suc, _+_, _-_, _≤_, _<_}
+use Prim.Native.Nat.{_-_, _≤_, _<_}
 use native.Mathlib.Omega.{arith}
-use lib.ListN.{length, take, drop, getD, set, length-drop, length-set, drop-of-length-le}
-use lib.Seq.{drop-cons, drop-drop, take-suc-set, length-take-le}
+use lib.ListN.{length, take, drop, set, length-drop, length-set}
+use lib.Seq.{length-take-le}
 use borrow.Author.Needs.{needs}
-use Rattle.format.specs.Line.{asked, asks, fields}
-use Rattle.format.specs.Number.{value}
+use Rattle.format.specs.Line.{asks, fields}
 use Rattle.format.specs.Place.{upTo}
 use Rattle.format.proofs.AskLaws.{asksOn, asks-begins, asks-next, asks-last, asks-wrong, asks-many}
 use Rattle.format.proofs.UpTo.{up-to-within, up-to-part}
 use Rattle.lines.specs.Read.{numberOf}
 use Rattle.lines.specs.declared.number.Number.the-variants.{Value, NoNumber}
 use Rattle.lines.proofs.NumberTold.{number-told, no-number-told}
+use Rattle.lines.proofs.Taken.{after-field, one-more, seven}
 use Rattle.lines.proofs.line.parse_numbers.Statement.{statement}
 use Rattle.lines.proofs.line.parse_numbers.Tie as tie
-
--- what is left after the field and the space behind it
-after-is : (rest : List ℕ) (at end : ℕ) → end ≡ at + length (upTo (code " ") (drop at rest)) → drop (suc (length (upTo (code " ") (drop at rest)))) (drop at rest) ≡ drop (end + 1) rest
-after-is rest at end e =
-    let n : at + suc (length (upTo (code " ") (drop at rest))) ≡ end + 1 = omega arith in
-    drop-drop _ at rest ∙ ap (λ (k : ℕ). drop k rest) n
-
--- the numbers taken so far, with one more
-one-more : (values : List ℕ) (count v : ℕ) → count < length values → take (count + 1) (set values count v) ≡ take count values ++ (v ∷ [])
-one-more values count v h = let n : count + 1 ≡ suc count = omega arith in rw n (take-suc-set values count v h)
-
-seven : (values : List ℕ) → length values ≡ 7
-    → values ≡ getD values 0 0 ∷ getD values 1 0 ∷ getD values 2 0 ∷ getD values 3 0 ∷ getD values 4 0 ∷ getD values 5 0 ∷ getD values 6 0 ∷ []
-seven values h =
-    let from : (i : ℕ) (tail : List ℕ) → i < 7 → drop (suc i) values ≡ tail → drop i values ≡ getD values i 0 ∷ tail = λ i tail l e. drop-cons values i 0 (rw h l) ∙ ap (λ (r : List ℕ). getD values i 0 ∷ r) e in
-    from 0 _ (omega arith)
-    (from 1 _ (omega arith)
-    (from 2 _ (omega arith)
-    (from 3 _ (omega arith) (from 4 _ (omega arith) (from 5 _ (omega arith) (from 6 [] (omega arith) (drop-of-length-le values {i = 7} (omega arith))))))))
 
 abbrev Inv-loop : tie.InvT-loop
 Inv-loop letter rest values₀ count₀ at₀ values count at =
@@ -76,9 +56,10 @@ returns : tie.Need-returns Inv-loop μ-loop
 returns c =
     let l = c .before .before .before .before .before .before .loop in
     let x = c .before .before .before .before .before .before .before .before .args in
+    let left = drop (l .at) (x .rest .now) in
     let field = up-to-part (code " ") (x .rest .now) (l .at) _ (c .before .before .before .before .find .ensures) in
-    let told : numberOf (upTo (code " ") (drop (l .at) (x .rest .now))) ≡ NoNumber = rw (← field) (sym (c .before .before .parse .ensures) ∙ c .enum-told .given .1) in
-    sym (l .inv .3 ∙ asks-wrong (x .letter) (take (l .count) (l .values)) (drop (l .at) (x .rest .now)) (no-number-told _ told))
+    let told : numberOf (upTo (code " ") left) ≡ NoNumber = rw (← field) (sym (c .before .before .parse .ensures) ∙ c .enum-told .given .1) in
+    sym (l .inv .3 ∙ asks-wrong (x .letter) (take (l .count) (l .values)) left (no-number-told _ told))
 
 mul-values : tie.Need-mul-values Inv-loop μ-loop
 mul-values c = search needs
@@ -115,14 +96,16 @@ ask-requires c κs = search needs
 
 returns-2 : tie.Need-returns-2 Inv-loop μ-loop
 returns-2 c =
-    let l = c .before .before .before .before .before .before .before .before .before .loop in
-    let x = c .before .before .before .before .before .before .before .before .before .before .before .args in
+    let parsed = c .before .before .before .before .before in
+    let l = parsed .before .before .before .before .loop in
+    let x = parsed .before .before .before .before .before .before .args in
     let left = drop (l .at) (x .rest .now) in
     let v = c .before .before .before .field .given .0 .0 in
-    let field = up-to-part (code " ") (x .rest .now) (l .at) _ (c .before .before .before .before .before .before .before .find .ensures) in
-    let told : numberOf (upTo (code " ") left) ≡ Value v = rw (← field) (sym (c .before .before .before .before .before .parse .ensures) ∙ c .before .before .before .field .given .1) in
+    let field = up-to-part (code " ") (x .rest .now) (l .at) _ (parsed .before .before .find .ensures) in
+    let told : numberOf (upTo (code " ") left) ≡ Value v = rw (← field) (sym (parsed .parse .ensures) ∙ c .before .before .before .field .given .1) in
     let is = number-told _ v told in
-    let last = asks-last (x .letter) (take (l .count) (l .values)) left (rw (length-drop (l .at) (x .rest .now)) (omega arith)) (is .0) in
+    let whole : length left ≤ length (upTo (code " ") left) = rw (length-drop (l .at) (x .rest .now)) (omega arith) in
+    let last = asks-last (x .letter) (take (l .count) (l .values)) left whole (is .0) in
     let all = seven (set (l .values) (l .count) v) (length-set (l .values) (l .count) v ∙ l .inv .0) in
     rw (c .ask .ensures, ← all, one-more (l .values) (l .count) v (omega arith), l .inv .3, last, is .1)
 
@@ -134,26 +117,29 @@ loop-less c = search needs
 
 loop-again : tie.Need-loop-again Inv-loop μ-loop
 loop-again c =
-    let l = c .before .before .before .before .before .before .before .before .loop in
-    let x = c .before .before .before .before .before .before .before .before .before .before .args in
+    let parsed = c .before .before .before .before in
+    let l = parsed .before .before .before .before .loop in
+    let x = parsed .before .before .before .before .before .before .args in
     let left = drop (l .at) (x .rest .now) in
     let v = c .before .before .field .given .0 .0 in
-    let found = c .before .before .before .before .before .before .find .ensures in
+    let found = parsed .before .before .find .ensures in
     let field = up-to-part (code " ") (x .rest .now) (l .at) _ found in
-    let told : numberOf (upTo (code " ") left) ≡ Value v = rw (← field) (sym (c .before .before .before .before .parse .ensures) ∙ c .before .before .field .given .1) in
+    let told : numberOf (upTo (code " ") left) ≡ Value v = rw (← field) (sym (parsed .parse .ensures) ∙ c .before .before .field .given .1) in
     let is = number-told _ v told in
-    let more = asks-next (x .letter) (take (l .count) (l .values)) left (rw (length-drop (l .at) (x .rest .now)) (omega arith)) (is .0) in (
+    let more : length (upTo (code " ") left) < length left = rw (length-drop (l .at) (x .rest .now)) (omega arith) in
+    let next = asks-next (x .letter) (take (l .count) (l .values)) left more (is .0) in (
       length-set (l .values) (l .count) v ∙ l .inv .0,
       omega arith,
       omega arith,
-      rw (one-more (l .values) (l .count) v (omega arith), ← after-is (x .rest .now) (l .at) _ found, l .inv .3, more, is .1),
+      rw (one-more (l .values) (l .count) v (omega arith), ← after-field (x .rest .now) (l .at) _ found, l .inv .3, next, is .1),
     )
 
 returns-3 : tie.Need-returns-3 Inv-loop μ-loop
 returns-3 c =
     let l = c .before .loop in
     let x = c .before .before .before .args in
-    sym (l .inv .3 ∙ asks-many (x .letter) (take (l .count) (l .values)) (drop (l .at) (x .rest .now)) (rw (length-take-le (l .count) (l .values) (omega arith)) (omega arith)))
+    let many : 7 ≤ length (take (l .count) (l .values)) = rw (length-take-le (l .count) (l .values) (omega arith)) (omega arith) in
+    sym (l .inv .3 ∙ asks-many (x .letter) (take (l .count) (l .values)) (drop (l .at) (x .rest .now)) many)
 
 pub parse-numbers-spec : {M : Type 1} → statement M
 parse-numbers-spec =

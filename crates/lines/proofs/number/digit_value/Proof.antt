@@ -1,7 +1,7 @@
--- `lines::number::digit_value` meets its contract: the tests are the definition's, and the bounds that they give keep the differences from going below 0.
+-- `lines::number::digit_value` meets its contract: the tests are the definition's, and the bounds that they give keep the differences from
+-- going below 0.
 -- Assumes nothing.
-use mathlib.Core.Path.{_≡_, _∙_, sym}
-use native.Mathlib.Omega.{arith}
+use mathlib.Core.Path.{_≡_}
 use borrow.Author.Needs.{needs}
 use borrow.Author.Tests.{leb-true}
 use Rattle.words.specs.Choice.{pick, _and_}

@@ -1,4 +1,5 @@
--- `lines::number::parse` meets its contract: after i digits, what is left to test and to add is what there was, and the value of i digits is below 2 ^ (4 * i), so that sixteen of them fit into a word.
+-- `lines::number::parse` meets its contract: after i digits, what is left to test and to add is what there was, and the value of i digits
+-- is below 2 ^ (4 * i), so that sixteen of them fit into a word.
 -- Assumes nothing.
 use mathlib.Core.Path.{_≡_, refl, ap, sym, _∙_}
 use mathlib.Core.Bool.{true, false}
@@ -48,7 +49,8 @@ returns-3 c =
     let f = c .before .before .before .before .before .before .before .before .args .field .now in
     let worth = c .before .digit-value .ensures in
     let no-digit = le-ltb (c .before .digit-value .result) 16 (omega arith) in
-    let not : areDigits f ≡ false = rw (← l .inv .4, digits-at f (l .i) (c .before .before .before .loop-test .taken), ← worth, no-digit) in
+    let within = c .before .before .before .loop-test .taken in
+    let not : areDigits f ≡ false = rw (← l .inv .4, digits-at f (l .i) within, ← worth, no-digit) in
     sym (pick-false _ _ (by-its-digits f (l .inv .0) (l .inv .1) ∙ not))
 
 -- the value with one digit more fits into a word

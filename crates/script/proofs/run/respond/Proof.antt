@@ -1,6 +1,7 @@
--- `script::run::respond` meets its contract: `step` promises the rules' outcome of the call, and `append_reply` that its reply is appended.
+-- `script::run::respond` meets its contract: `step` promises the rules' outcome of the call, and `append_reply` that its reply is
+-- appended.
 -- Assumes nothing.
-use mathlib.Core.Path.{_≡_, ap}
+use mathlib.Core.Path.{_≡_}
 use borrow.Author.Needs.{needs}
 use Rattle.format.specs.Reply.{wrongReply}
 use Rattle.format.specs.Response.{response, following}
@@ -39,7 +40,7 @@ unfolding response following
 returns c =
     let is = c .before .before .before .before .before .before .before .before .before .before .before .before .said .given .1 in
     let made = c .before .before .before .before .before .before .before .before .step .ensures in
-    (rw is (ap (λ o. o .after) made), rw (c .before .before .append-reply .ensures, is, ← made))
+    (rw (is, ← made), rw (c .before .before .append-reply .ensures, is, ← made))
 
 same-length-4 : tie.Need-same-length-4
 same-length-4 c = search needs

@@ -1,4 +1,5 @@
--- `script::run::run` meets its contract: what was printed, with what the text from the place on prints, is what the whole text prints, and so with table and memory. Each turn goes past a line.
+-- `script::run::run` meets its contract: what was printed, with what the text from the place on prints, is what the whole text prints, and
+-- so with table and memory. Each turn goes past a line.
 -- Assumes nothing.
 use mathlib.Core.Path.{_≡_, refl, sym, ap, _∙_}
 use Prim.Native.Nat.{_-_, _≤_}
@@ -18,7 +19,8 @@ abbrev Inv-loop : tie.InvT-loop
 Inv-loop table₀ memory₀ text out₀ at₀ filled₀ table memory out at filled =
     (length table ≡ length table₀) × (length memory ≡ length memory₀) × (length out ≡ length out₀) × (at ≤ length text)
     × (after (state table memory) (drop at text) ≡ after (state table₀ memory₀) text)
-    × (appended (buffer out filled) (printed (state table memory) (drop at text)) ≡ appended (buffer out₀ 0) (printed (state table₀ memory₀) text))
+    × (appended (buffer out filled) (printed (state table memory) (drop at text))
+    ≡ appended (buffer out₀ 0) (printed (state table₀ memory₀) text))
 
 abbrev μ-loop : tie.MeasureT-loop
 μ-loop table₀ memory₀ text out₀ at₀ filled₀ table memory out at filled = length text - at
@@ -34,16 +36,20 @@ respond-requires c κs = search needs
 
 loop-less : tie.Need-loop-less Inv-loop μ-loop
 loop-less c =
-    let past = place-past (c .before .before .before .before .before .before .before .before .before .before .before .before .before .before .before .before .before .args .text .now) (c .before .before .before .before .before .before .before .before .before .before .before .before .loop .at) (c .before .before .before .before .before .before .before .before .before .before .before .loop-test .taken) in
-    let next = c .before .before .before .before .before .before .before .before .before .before .next-line .ensures .1 in
+    let read = c .before .before .before .before .before .before .before .before .before .before in
+    let l = read .before .before .loop in
+    let x = read .before .before .before .before .before .before .before .args in
+    let past = place-past (x .text .now) (l .at) (read .before .loop-test .taken) in
+    let next = read .next-line .ensures .1 in
     omega arith
 
 loop-again : tie.Need-loop-again Inv-loop μ-loop
 loop-again c =
-    let l = c .before .before .before .before .before .before .before .before .before .before .before .before .loop in
-    let x = c .before .before .before .before .before .before .before .before .before .before .before .before .before .before .before .before .before .args in
-    let within = c .before .before .before .before .before .before .before .before .before .before .before .loop-test .taken in
-    let line = c .before .before .before .before .before .before .before .before .before .before .next-line .ensures in
+    let read = c .before .before .before .before .before .before .before .before .before .before in
+    let l = read .before .before .loop in
+    let x = read .before .before .before .before .before .before .before .args in
+    let within = read .before .loop-test .taken in
+    let line = read .next-line .ensures in
     let responded = c .before .before .before .before .before .before .respond .ensures in
     let s = state (l .table) (l .memory) in (
       omega arith,
@@ -68,9 +74,11 @@ returns c =
     let l = c .before .loop in
     let x = c .before .before .before .before .before .before .args in
     let s = state (l .table) (l .memory) in
-    let end = c .loop-test .left in (
+    let end = c .loop-test .left in
+    let none = nothing-printed s (x .text .now) (l .at) end in
+    let out = buffer (l .out) (l .filled) in (
       sym (nothing-after s (x .text .now) (l .at) end) ∙ l .inv .4,
-      sym (appended-nothing (buffer (l .out) (l .filled))) ∙ ap (appended (buffer (l .out) (l .filled))) (sym (nothing-printed s (x .text .now) (l .at) end)) ∙ l .inv .5,
+      sym (appended-nothing out) ∙ ap (appended out) (sym none) ∙ l .inv .5,
     )
 
 pub run-spec : {M : Type 1} → statement M

@@ -1,4 +1,5 @@
--- `script::stream::feed` meets its contract: the lines before the cut are run, and what is moved down is the unfinished line, or as much of it as is kept.
+-- `script::stream::feed` meets its contract: the lines before the cut are run, and what is moved down is the unfinished line, or as much of
+-- it as is kept.
 -- Assumes nothing.
 use mathlib.Core.Path.{_≡_, sym}
 use native.Mathlib.Omega.{arith}
@@ -46,10 +47,12 @@ same-length-4 c = search needs
 
 returns : tie.Need-returns
 returns c =
-    let x = c .before .before .before .before .before .before .before .before .before .before .before .before .before .before .before .before .before .before .before .before .before .before .before .args in
-    let held = c .before .before .before .before .before .before .before .before .before .before .before .before .before .before .before .before .before .before .least .ensures in
-    let cut = c .before .before .before .before .before .before .before .before .before .before .before .before .before .before .before .before .whole-lines .ensures .1 in
-    let ran = c .before .before .before .before .before .before .before .before .before .before .before .run .ensures in
+    let at-run = c .before .before .before .before .before .before .before .before .before .before .before in
+    let at-cut = at-run .before .before .before .before .before in
+    let x = at-cut .before .before .before .before .before .before .before .args in
+    let held = at-cut .before .before .least .ensures in
+    let cut = at-cut .whole-lines .ensures .1 in
+    let ran = at-run .run .ensures in
     let lines = whole-is (x .text .now) (x .filled) _ _ held cut in
     let moved = moved-is (x .text .now) (x .filled) _ _ held cut _ (c .before .before .before .before .least2 .ensures) in
     (rw lines (ran .0), (rw lines (ran .1), rw (c .before .before .move-down .ensures) moved))

@@ -1,4 +1,5 @@
--- `script::stream::move_down` meets its contract: after i turns i bytes are laid at the start, and the byte that is read next is still as it was, since it stands no lower than the one that is written.
+-- `script::stream::move_down` meets its contract: after i turns i bytes are laid at the start, and the byte that is read next is still as it
+-- was, since it stands no lower than the one that is written.
 -- Assumes nothing.
 use mathlib.Core.Path.{_≡_, refl, sym, ap, _∙_}
 use mathlib.Core.List.{List}

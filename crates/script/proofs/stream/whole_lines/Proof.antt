@@ -1,4 +1,5 @@
--- `script::stream::whole_lines` meets its contract: as long as no line feed was met from the end on, the last one is among the bytes that are left.
+-- `script::stream::whole_lines` meets its contract: as long as no line feed was met from the end on, the last one is among the bytes that
+-- are left.
 -- Assumes nothing.
 use mathlib.Core.Path.{_≡_, refl, sym, ap, _∙_}
 use Prim.Native.Nat.{ℕ, suc, _-_, _≤_}

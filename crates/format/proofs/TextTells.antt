@@ -1,0 +1,51 @@
+-- What is printed for a text tells the answers of all its calls: the numbers of its calls fit into 64 bits, so memory's words stay so and
+-- each answer is one that its call may give, and of such answers the printed lines tell.
+-- Assumes nothing.
+use mathlib.Core.List.{List, [], _∷_, map}
+use Prim.Native.Nat.{ℕ}
+use Rattle.rules.specs.Calls.{Call, step}
+use Rattle.rules.specs.History.{history}
+use Rattle.rules.specs.State.{State}
+use Rattle.format.specs.Line.{Said, says, wrong, said}
+use Rattle.format.specs.Tells.{AllAnswer, HoldsWords, TextTells}
+use Rattle.format.specs.Text.{lines, saidBy, callsOf, calls, printed}
+use Rattle.format.specs.Written.{numbers, AreWords}
+use Rattle.format.proofs.PrintedTells.{printed-tells}
+use Rattle.format.proofs.SaidFits.{Fits, said-fits}
+use Rattle.format.proofs.StepAnswers.{step-answers}
+use Rattle.format.proofs.TextKeeps.{calls-made}
+use Rattle.format.proofs.WordsStay.{words-held, words-stay}
+
+-- ---- calls whose numbers fit
+abbrev AllFit : List Call → Type 0
+AllFit [] = Unit {0}
+AllFit (call ∷ rest) = AreWords (numbers call) × AllFit rest
+
+more-fit : (first : Said) (rest : List Said) → Fits first → AllFit (callsOf rest) → AllFit (callsOf (first ∷ rest))
+unfolding callsOf
+more-fit (says call) rest h all = (h, all)
+more-fit wrong rest h all = all
+
+lines-fit : (parts : List (List ℕ)) → AllFit (callsOf (map said parts))
+unfolding callsOf
+lines-fit [] = tt
+lines-fit (line ∷ rest) = more-fit (said line) (map said rest) (said-fits line) (lines-fit rest)
+
+text-fits : (text : List ℕ) → AllFit (calls text)
+unfolding calls saidBy
+text-fits text = lines-fit (lines text)
+
+-- ---- their answers
+all-answer : (s : State) (all : List Call) → HoldsWords s → AllFit all → AllAnswer (history s all)
+unfolding history
+all-answer s [] words fit = tt
+all-answer s (call ∷ rest) words fit =
+    (step-answers s call words, all-answer (step s call .after) rest (words-stay s words call (fit .0)) (fit .1))
+
+pub text-tells : TextTells
+unfolding printed calls
+text-tells one two text h k e =
+    let all = calls text in
+    let fit = text-fits text in
+    printed-tells (saidBy text) (history one all) (history two all) (calls-made one all) (calls-made two all)
+    (all-answer one all (words-held one h) fit) (all-answer two all (words-held two k) fit) e

@@ -1,0 +1,135 @@
+-- Memory whose words fit into 64 bits stays so under a call whose numbers do: a call puts the value of a WRITE, an address and one, or zero
+-- into a word, or copies words.
+-- Assumes nothing.
+use mathlib.Core.Path.{_≡_}
+use mathlib.Core.Bool.{Bool, true, false}
+use mathlib.Core.List.{List, [], _∷_}
+use mathlib.Core.Logic.{⊎-elim}
+use Prim.Native.Nat.{ℕ, zero, suc, _+_, _*_, _<_, _^_}
+use native.Mathlib.Omega.{arith}
+use lib.ListN.{getD}
+use Rattle.words.specs.Choice.{pick}
+use Rattle.words.specs.Frame.{wordIn, frameCount}
+use Rattle.words.proofs.ChoiceLaws.{lt-or-le, same-or-not, bounds-either}
+use Rattle.words.proofs.FrameLaws.{put-outside, put-past, copy-outside-from, copy-outside-to}
+use Rattle.entries.specs.Leaf.{presentAt}
+use Rattle.entries.specs.declared.entry.Entry.{Entry}
+use Rattle.rules.specs.Answers.{Outcome}
+use Rattle.rules.specs.Assignment.{assigning, validating}
+use Rattle.rules.specs.Calls.{Call, RMPUPDATE, PVALIDATE, PFIX, PMERGE, PUNMERGE, PUNFIX, READ, WRITE, CENSUS, step}
+use Rattle.rules.specs.Merging.{fixing, merging, unmerging, unfixing}
+use Rattle.rules.specs.State.{State, M, wordAt, withEntry, withWord, withZeros, withCopy}
+use Rattle.rules.proofs.Passed.{rmpupdate-cases, pvalidate-cases, pfix-cases, pmerge-cases, punmerge-cases, punfix-cases, write-cases}
+use Rattle.rules.proofs.StateLaws.{word-after-entry, word-after-word, word-elsewhere, word-beside, word-after-zeros, word-beside-zeros}
+use Rattle.rules.proofs.StateLaws.{word-after-copy, word-beside-copy}
+use Rattle.rules.proofs.Steps.{read-keeps, census-keeps}
+use Rattle.format.specs.Tells.{HoldsWords}
+use Rattle.format.specs.Written.{numbers, AreWords}
+
+-- ---- memory that is a list of 64-bit words
+word-small : (memory : List ℕ) (i : ℕ) → AreWords memory → getD memory i 0 < 2 ^ 64
+word-small [] i h = omega arith
+word-small (n ∷ rest) zero h = h .0
+word-small (n ∷ rest) (suc i) h = word-small rest i (h .1)
+
+pub words-held : (s : State) → AreWords (s .memory) → HoldsWords s
+unfolding wordAt wordIn
+words-held s h frame index =
+    bounds-either frame (frameCount (s .memory)) index 512 (getD (s .memory) (512 * frame + index) 0) 0 (λ n. n < 2 ^ 64)
+    (λ f i. word-small (s .memory) (512 * frame + index) h) (omega arith)
+
+-- ---- what a call does to words
+module _ (s : State) (words : HoldsWords s) where
+  entry-words : (f : ℕ) (e : Entry) → HoldsWords (withEntry s f e)
+  entry-words f e g j = rw (word-after-entry s f e g j) (words g j)
+
+  zero-words : (f : ℕ) → HoldsWords (withZeros s f)
+  zero-words f g j =
+      ⊎-elim (λ (same : g ≡ f). rw (same, word-after-zeros s f j) (omega arith)) (λ apart. rw (word-beside-zeros s f g j apart) (words g j))
+      (same-or-not g f)
+
+  -- a word put there, or nothing changed
+  module _ (f i v : ℕ) (small : v < 2 ^ 64) where
+    put-there : wordAt (withWord s f i v) f i < 2 ^ 64
+    unfolding withWord M
+    put-there =
+        ⊎-elim
+        (λ h. ⊎-elim (λ l. rw (word-after-word s f i v h l) small) (λ l. rw (put-past (s .memory) f i v l) (words f i)) (lt-or-le i 512))
+        (λ h. rw (put-outside (s .memory) f i v h) (words f i))
+        (lt-or-le f (M s))
+
+    put-words : HoldsWords (withWord s f i v)
+    put-words g j =
+        ⊎-elim
+        (λ (frame : g ≡ f).
+        ⊎-elim (λ (place : j ≡ i). rw (frame, place) put-there) (λ apart. rw (word-beside s f i v g j apart) (words g j)) (same-or-not j i))
+        (λ apart. rw (word-elsewhere s f i v g j apart) (words g j))
+        (same-or-not g f)
+
+  -- a frame copied, or nothing changed
+  module _ (from to : ℕ) where
+    copied-there : (j : ℕ) → wordAt (withCopy s from to) to j < 2 ^ 64
+    unfolding withCopy M
+    copied-there j =
+        ⊎-elim
+        (λ h.
+        ⊎-elim (λ k. rw (word-after-copy s from to j h k) (words from j)) (λ k. rw (copy-outside-to (s .memory) from to k) (words to j))
+        (lt-or-le to (M s)))
+        (λ h. rw (copy-outside-from (s .memory) from to h) (words to j))
+        (lt-or-le from (M s))
+
+    copy-words : HoldsWords (withCopy s from to)
+    copy-words g j =
+        ⊎-elim (λ (same : g ≡ to). rw same (copied-there j)) (λ apart. rw (word-beside-copy s from to g j apart) (words g j))
+        (same-or-not g to)
+
+-- ---- what is done
+present-small : (gpa : ℕ) → presentAt gpa < 2 ^ 64
+unfolding presentAt
+present-small gpa = omega arith
+
+either-words : (t : Bool) (s u : State) → HoldsWords s → HoldsWords u → HoldsWords (pick t s u)
+unfolding pick
+either-words true s u h k = h
+either-words false s u h k = k
+
+module _ (s : State) (words : HoldsWords s) where
+  abbrev After : Outcome → Type 0
+  After o = HoldsWords (o .after)
+
+  assigned : (frame : ℕ) (old : Entry) (gpa asid kind : ℕ) → HoldsWords (assigning s frame old gpa asid kind)
+  unfolding assigning
+  assigned frame old gpa asid kind = entry-words _ (either-words _ _ _ words (zero-words s words frame)) _ _
+
+  fixed : (frame : ℕ) (old : Entry) (leaf : ℕ) → HoldsWords (fixing s frame old leaf)
+  unfolding fixing
+  fixed frame old leaf = entry-words _ (put-words _ (zero-words s words _) _ _ _ (present-small (old .address))) _ _
+
+  merged : (one : Entry) (frame : ℕ) (two : Entry) → HoldsWords (merging s one frame two)
+  unfolding merging
+  merged one frame two = entry-words _ (zero-words _ (put-words s words _ _ _ (present-small (two .address))) frame) _ _
+
+  unmerged : (from : ℕ) (one : Entry) (to asid gpa : ℕ) → HoldsWords (unmerging s from one to asid gpa)
+  unfolding unmerging
+  unmerged from one to asid gpa = put-words _ (entry-words _ (copy-words s words from to) _ _) _ _ 0 (omega arith)
+
+  unfixed : (frame : ℕ) (old : Entry) (gpa : ℕ) → HoldsWords (unfixing s frame old gpa)
+  unfolding unfixing
+  unfixed frame old gpa = zero-words _ (entry-words _ (entry-words s words _ _) _ _) _
+
+  pub words-stay : (call : Call) → AreWords (numbers call) → HoldsWords (step s call .after)
+  unfolding step numbers validating
+  words-stay (RMPUPDATE caller hpa gpa asid kind) fit =
+      rmpupdate-cases After s (λ n why. words) caller hpa gpa asid kind (λ old p. assigned _ old gpa asid kind)
+  words-stay (PVALIDATE caller gpa hpa kind) fit =
+      pvalidate-cases After s (λ n why. words) caller gpa hpa kind (λ old p. entry-words s words _ _)
+  words-stay (PFIX caller hpa leaf) fit = pfix-cases After s (λ n why. words) caller hpa leaf (λ old p. fixed _ old leaf)
+  words-stay (PMERGE caller hpa1 hpa2) fit = pmerge-cases After s (λ n why. words) caller hpa1 hpa2 (λ one two p. merged one _ two)
+  words-stay (PUNMERGE caller hpa1 hpa2 asid) fit =
+      punmerge-cases After s (λ n why. words) caller hpa1 hpa2 asid (λ one two gpa p. unmerged _ one _ asid gpa)
+  words-stay (PUNFIX caller hpa) fit = punfix-cases After s (λ n why. words) caller hpa (λ old gpa p. unfixed _ old gpa)
+  words-stay (READ caller gpa hpa gtype ntype index) fit = rw (read-keeps s caller gpa hpa gtype ntype index) words
+  words-stay (WRITE caller gpa hpa gtype ntype index value) fit =
+      write-cases After s (λ n why. words) caller gpa hpa gtype ntype index value
+      (λ p. put-words s words _ _ _ (fit .1 .1 .1 .1 .1 .1 .0))
+  words-stay (CENSUS asid) fit = rw (census-keeps s asid) words
