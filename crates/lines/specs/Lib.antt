@@ -1,2 +1,2 @@
--- What the promises of `lines` name beside the format: a number, a line, and the line at a place of a text, as they are read.
+-- What the promises of `lines` name beside the format: a line, and the line at a place of a text, as they are read.
 pub mod Read

@@ -1,22 +1,14 @@
--- What the code reads, in the words of the format: a number, a line, the line at a place of a text.
+-- What the code reads, in the words of the format: a line, and the line at a place of a text.
 use mathlib.Core.Path.{_≡_}
 use mathlib.Core.List.{List}
 use Prim.Native.Nat.{ℕ}
-use Rattle.words.specs.Choice.{pick}
 use Rattle.monitor.specs.Call.{called}
-use Rattle.format.specs.Number.{isNumber, value}
 use Rattle.format.specs.Line as format
 use Rattle.format.specs.Line.{says, wrong}
 use Rattle.format.specs.Place.{lineAt, placeAfter}
-use Rattle.lines.specs.declared.number.Number.{Number}
-use Rattle.lines.specs.declared.number.Number.the-variants.{Value, NoNumber}
 use Rattle.lines.specs.declared.line.Line.{Line}
 use Rattle.lines.specs.declared.line.Said.{Said}
 use Rattle.lines.specs.declared.line.Said.the-variants.{Says, Wrong}
-
--- the number of a field
-unfoldable pub numberOf : List ℕ → Number
-numberOf field = pick (isNumber field) (Value (value field)) NoNumber
 
 -- what a line says
 abbrev pub meant : Said → format.Said

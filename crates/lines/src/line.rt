@@ -6,9 +6,9 @@ ghost use lib.ListN.{length, drop, take};
 ghost use Rattle.format.specs.Line.{said, asks, asked, fields};
 ghost use Rattle.format.specs.Place.{upTo};
 ghost use Rattle.lines.specs.Read.{meant, IsLineAt};
-use crate::number;
-use crate::number::Number;
 use monitor::Call;
+use numbers::number;
+use numbers::number::Number;
 
 // What a line says: a call, or nothing, where it is wrong.
 pub enum Said {

@@ -1,4 +1,2 @@
-// What is printed for a call: bytes that are filled from the start, numbers, and the answer's line.
-pub mod buffer;
-pub mod digits;
+// What is printed for a call and its answer.
 pub mod reply;

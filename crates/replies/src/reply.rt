@@ -5,12 +5,12 @@ ghost use Rattle.checks.specs.Answer.{told};
 ghost use Rattle.rules.specs.Answers.{closed, count};
 ghost use Rattle.format.specs.Reply.{answered, reply};
 ghost use Rattle.format.specs.Written.{letter};
-ghost use Rattle.replies.specs.Buffer.{buffer, appended};
-use crate::buffer::append;
-use crate::digits::append_decimal;
-use crate::digits::append_hex;
+ghost use Rattle.numbers.specs.Buffer.{buffer, appended};
 use monitor::Answer;
 use monitor::Call;
+use numbers::buffer::append;
+use numbers::digits::append_decimal;
+use numbers::digits::append_hex;
 
 // Appends the line that is printed for a call and its answer.
 pub fn append_reply(bytes: &mut [u8], filled: usize, call: Call, answer: Answer) -> usize

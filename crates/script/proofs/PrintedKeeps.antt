@@ -8,8 +8,8 @@ use Rattle.rules.specs.State.{emptyTable}
 use Rattle.format.specs.Text.{printed}
 use Rattle.format.proofs.Room.{room-enough}
 use Rattle.format.proofs.TextKeeps.{text-keeps-demand-3}
-use Rattle.replies.specs.Buffer.{buffer}
-use Rattle.replies.proofs.BufferLaws.{appended-fits}
+use Rattle.numbers.specs.Buffer.{buffer}
+use Rattle.numbers.proofs.BufferLaws.{appended-fits}
 use Rattle.script.specs.Printed.{PrintedDemand3}
 
 pub printed-keeps-demand-3 : PrintedDemand3

@@ -13,7 +13,7 @@ use Rattle.words.specs.Choice.{pick}
 use Rattle.words.proofs.ChoiceLaws.{lt-or-le}
 use Rattle.format.specs.Piece.{cut, wholeLines, unfinished}
 use Rattle.format.proofs.Cut.{cut-most}
-use Rattle.replies.specs.Buffer.{buffer, fitting, appended}
+use Rattle.numbers.specs.Buffer.{buffer, fitting, appended}
 
 cut-taken : (text : List ℕ) (most count : ℕ) → count ≤ most → cut (take most text) count ≡ cut text count
 unfolding cut

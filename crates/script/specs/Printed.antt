@@ -6,7 +6,7 @@ use lib.ListN.{length, take}
 use Rattle.rules.specs.History.{Made, history, NoCounterGoesBack}
 use Rattle.rules.specs.State.{emptyTable}
 use Rattle.format.specs.Text.{saidBy, calls, replies, printed, after}
-use Rattle.replies.specs.Buffer.{buffer, appended}
+use Rattle.numbers.specs.Buffer.{buffer, appended}
 
 -- `out` has 54 bytes for each byte of the text. Then what `run` promises of it (`out` before and after, and the number that `run` answers)
 -- says: the bytes printed are the replies to the text's lines, with the answers of the calls that the text says, as the rules make them;

@@ -3,12 +3,12 @@ ghost use mathlib.Core.Path.{_≡_};
 ghost use Rattle.rules.specs.State.{state};
 ghost use Rattle.format.specs.Text.{printed, after};
 ghost use Rattle.lines.specs.Read.{meant};
-ghost use Rattle.replies.specs.Buffer.{buffer, appended};
+ghost use Rattle.numbers.specs.Buffer.{buffer, appended};
 ghost use Rattle.format.specs.Response.{response, following};
 use lines::line::Said;
 use lines::reader::next_line;
 use monitor::step;
-use replies::buffer::append;
+use numbers::buffer::append;
 use replies::reply::append_reply;
 
 // Runs the calls that `text` says, and prints to the start of `out`, as much as there is room for. Answers how many bytes it printed.

@@ -6,9 +6,9 @@ ghost use lib.Seq.{paste};
 ghost use Rattle.rules.specs.State.{state};
 ghost use Rattle.format.specs.Piece.{cut, wholeLines, unfinished};
 ghost use Rattle.format.specs.Text.{printed, after};
-ghost use Rattle.replies.specs.Buffer.{buffer, appended};
+ghost use Rattle.numbers.specs.Buffer.{buffer, appended};
 use crate::run::run;
-use replies::buffer::least;
+use numbers::buffer::least;
 
 // What a piece left: the bytes of an unfinished line, at the start of the text's bytes, and how many bytes were printed.
 pub struct Fed {

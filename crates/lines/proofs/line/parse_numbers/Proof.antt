@@ -11,9 +11,9 @@ use Rattle.format.specs.Line.{asks, fields}
 use Rattle.format.specs.Place.{upTo}
 use Rattle.format.proofs.AskLaws.{asksOn, asks-begins, asks-next, asks-last, asks-wrong, asks-many}
 use Rattle.format.proofs.UpTo.{up-to-within, up-to-part}
-use Rattle.lines.specs.Read.{numberOf}
-use Rattle.lines.specs.declared.number.Number.the-variants.{Value, NoNumber}
-use Rattle.lines.proofs.NumberTold.{number-told, no-number-told}
+use Rattle.numbers.specs.Numeral.{numberOf}
+use Rattle.numbers.specs.declared.number.Number.the-variants.{Value, NoNumber}
+use Rattle.numbers.proofs.NumberTold.{number-told, no-number-told}
 use Rattle.lines.proofs.Taken.{after-field, one-more, seven}
 use Rattle.lines.proofs.line.parse_numbers.Statement.{statement}
 use Rattle.lines.proofs.line.parse_numbers.Tie as tie

@@ -3,7 +3,7 @@
 use mathlib.Core.List.{append-assoc}
 use borrow.Author.Needs.{needs}
 use Rattle.format.specs.Reply.{answered}
-use Rattle.replies.proofs.BufferLaws.{append-append}
+use Rattle.numbers.proofs.BufferLaws.{append-append}
 use Rattle.replies.proofs.reply.append_closed.Statement.{statement}
 use Rattle.replies.proofs.reply.append_closed.Tie as tie
 

@@ -2,7 +2,7 @@
 -- Assumes nothing.
 use borrow.Author.Needs.{needs}
 use Rattle.format.specs.Reply.{answered}
-use Rattle.replies.proofs.BufferLaws.{append-append}
+use Rattle.numbers.proofs.BufferLaws.{append-append}
 use Rattle.replies.proofs.reply.append_number.Statement.{statement}
 use Rattle.replies.proofs.reply.append_number.Tie as tie
 

@@ -10,8 +10,8 @@ use Rattle.rules.specs.State.{state}
 use Rattle.format.specs.Text.{printed, after}
 use Rattle.format.proofs.PlaceLaws.{place-past, place-within}
 use Rattle.format.proofs.ResponseLaws.{printed-at, after-at, nothing-printed, nothing-after}
-use Rattle.replies.specs.Buffer.{buffer, appended}
-use Rattle.replies.proofs.BufferLaws.{append-append, appended-nothing}
+use Rattle.numbers.specs.Buffer.{buffer, appended}
+use Rattle.numbers.proofs.BufferLaws.{append-append, appended-nothing}
 use Rattle.script.proofs.run.run.Statement.{statement}
 use Rattle.script.proofs.run.run.Tie as tie
 

@@ -9,7 +9,7 @@ use native.Mathlib.Omega.{arith}
 use lib.ListN.{length, take, length-append}
 use lib.Seq.{paste, paste-zero, take-paste, drop-paste, length-paste, take-length, take-append-le, take-append-add, drop-drop}
 use Rattle.words.proofs.ChoiceLaws.{lt-or-le}
-use Rattle.replies.specs.Buffer.{Buffer, buffer, fitting, appended}
+use Rattle.numbers.specs.Buffer.{Buffer, buffer, fitting, appended}
 
 -- n bytes laid after those that are there
 laid : Buffer → List ℕ → ℕ → Buffer

@@ -1,4 +1,4 @@
--- `lines::number::parse` meets its contract: after i digits, what is left to test and to add is what there was, and the value of i digits
+-- `numbers::number::parse` meets its contract: after i digits, what is left to test and to add is what there was, and the value of i digits
 -- is below 2 ^ (4 * i), so that sixteen of them fit into a word.
 -- Assumes nothing.
 use mathlib.Core.Path.{_≡_, refl, ap, sym, _∙_}
@@ -12,10 +12,10 @@ use Rattle.words.specs.Choice.{_and_}
 use Rattle.words.proofs.ChoiceLaws.{pick-true, pick-false}
 use Rattle.format.specs.Number.{areDigits, isNumber, valueAfter, value}
 use Rattle.format.proofs.ReadLaws.{digits-at, value-at, value-grows, value-fits, too-short, too-long, by-its-digits}
-use Rattle.lines.specs.Read.{numberOf}
-use Rattle.lines.specs.declared.number.Number.the-variants.{Value}
-use Rattle.lines.proofs.number.parse.Statement.{statement}
-use Rattle.lines.proofs.number.parse.Tie as tie
+use Rattle.numbers.specs.Numeral.{numberOf}
+use Rattle.numbers.specs.declared.number.Number.the-variants.{Value}
+use Rattle.numbers.proofs.number.parse.Statement.{statement}
+use Rattle.numbers.proofs.number.parse.Tie as tie
 
 abbrev Inv-loop : tie.InvT-loop
 Inv-loop field high₀ i₀ high i =

@@ -1,11 +1,11 @@
--- `replies::digits::digit` meets its contract: the test is the definition's.
+-- `numbers::digits::digit` meets its contract: the test is the definition's.
 -- Assumes nothing.
 use borrow.Author.Needs.{needs}
 use borrow.Author.Tests.{lt-ltb, le-ltb}
 use Rattle.words.specs.Choice.{pick}
 use Rattle.format.specs.Number as Number
-use Rattle.replies.proofs.digits.digit.Statement.{statement}
-use Rattle.replies.proofs.digits.digit.Tie as tie
+use Rattle.numbers.proofs.digits.digit.Statement.{statement}
+use Rattle.numbers.proofs.digits.digit.Tie as tie
 
 cast-result : tie.Need-cast-result
 cast-result c = search needs

@@ -1,4 +1,4 @@
--- `lines::number::digit_value` meets its contract: the tests are the definition's, and the bounds that they give keep the differences from
+-- `numbers::number::digit_value` meets its contract: the tests are the definition's, and the bounds that they give keep the differences from
 -- going below 0.
 -- Assumes nothing.
 use mathlib.Core.Path.{_≡_}
@@ -7,8 +7,8 @@ use borrow.Author.Tests.{leb-true}
 use Rattle.words.specs.Choice.{pick, _and_}
 use Rattle.words.proofs.ChoiceLaws.{and-left}
 use Rattle.format.specs.Number.{digitValue}
-use Rattle.lines.proofs.number.digit_value.Statement.{statement}
-use Rattle.lines.proofs.number.digit_value.Tie as tie
+use Rattle.numbers.proofs.number.digit_value.Statement.{statement}
+use Rattle.numbers.proofs.number.digit_value.Tie as tie
 
 wide-requires : tie.Need-wide-requires
 wide-requires c κs = search needs

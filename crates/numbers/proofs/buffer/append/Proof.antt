@@ -1,4 +1,4 @@
--- `replies::buffer::append` meets its contract: after i turns the first i bytes of `more` are laid over those from `filled` on.
+-- `numbers::buffer::append` meets its contract: after i turns the first i bytes of `more` are laid over those from `filled` on.
 -- Assumes nothing.
 use mathlib.Core.Path.{_≡_, refl}
 use Prim.Native.Nat.{_+_, _-_, _≤_, _<_}
@@ -7,9 +7,9 @@ use native.Mathlib.Omega.{arith}
 use lib.ListN.{length, length-set}
 use lib.Seq.{paste, paste-zero, paste-suc}
 use borrow.Author.Needs.{needs}
-use Rattle.replies.specs.Buffer.{appended, fitting}
-use Rattle.replies.proofs.buffer.append.Statement.{statement}
-use Rattle.replies.proofs.buffer.append.Tie as tie
+use Rattle.numbers.specs.Buffer.{appended, fitting}
+use Rattle.numbers.proofs.buffer.append.Statement.{statement}
+use Rattle.numbers.proofs.buffer.append.Tie as tie
 
 abbrev Inv-loop : tie.InvT-loop
 Inv-loop bytes₀ filled more n i₀ bytes i = (i ≤ n) × (length bytes ≡ length bytes₀) × (bytes ≡ paste bytes₀ filled more i)

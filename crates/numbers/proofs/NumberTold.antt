@@ -6,9 +6,9 @@ use mathlib.Core.List.{List}
 use Prim.Native.Nat.{ℕ}
 use Rattle.words.specs.Choice.{pick}
 use Rattle.format.specs.Number.{isNumber, value}
-use Rattle.lines.specs.Read.{numberOf}
-use Rattle.lines.specs.declared.number.Number.{Number}
-use Rattle.lines.specs.declared.number.Number.the-variants.{Value, NoNumber}
+use Rattle.numbers.specs.Numeral.{numberOf}
+use Rattle.numbers.specs.declared.number.Number.{Number}
+use Rattle.numbers.specs.declared.number.Number.the-variants.{Value, NoNumber}
 
 by-value : (t : Bool) (n m : ℕ) → pick t (Value n) NoNumber ≡ Value m → (t ≡ true) × (n ≡ m)
 unfolding pick

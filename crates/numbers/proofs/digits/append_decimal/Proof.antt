@@ -1,13 +1,13 @@
--- `replies::digits::append_decimal` meets its contract: what is appended is the end of the array, where `spell` put the digits.
+-- `numbers::digits::append_decimal` meets its contract: what is appended is the end of the array, where `spell` put the digits.
 -- Assumes nothing.
 use mathlib.Core.Path.{_≡_, _∙_}
 use native.Mathlib.Omega.{arith}
 use lib.ListN.{length}
 use borrow.Author.Needs.{needs}
 use Rattle.format.specs.Number.{decimal}
-use Rattle.replies.proofs.DigitsLaws.{lent-end}
-use Rattle.replies.proofs.digits.append_decimal.Statement.{statement}
-use Rattle.replies.proofs.digits.append_decimal.Tie as tie
+use Rattle.numbers.proofs.DigitsLaws.{lent-end}
+use Rattle.numbers.proofs.digits.append_decimal.Statement.{statement}
+use Rattle.numbers.proofs.digits.append_decimal.Tie as tie
 
 slice-aggregate-spell : tie.Need-slice-aggregate-spell
 slice-aggregate-spell c = search needs

@@ -1,7 +1,7 @@
 // A number as a script has it: 1 to 16 hex digits.
 ghost use mathlib.Core.Path.{_≡_};
 ghost use Rattle.format.specs.Number.{digitValue};
-ghost use Rattle.lines.specs.Read.{numberOf};
+ghost use Rattle.numbers.specs.Numeral.{numberOf};
 
 pub enum Number {
     Value(u64),

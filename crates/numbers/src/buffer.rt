@@ -1,7 +1,7 @@
 // Bytes that are filled from the start.
 ghost use mathlib.Core.Path.{_≡_};
 ghost use Prim.Native.Nat.{_-_, min};
-ghost use Rattle.replies.specs.Buffer.{buffer, appended};
+ghost use Rattle.numbers.specs.Buffer.{buffer, appended};
 
 // Puts `more` after the first `filled` bytes of `bytes`, as much of it as there is room for, and answers how many are filled now.
 pub fn append(bytes: &mut [u8], filled: usize, more: &[u8]) -> usize

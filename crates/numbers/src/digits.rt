@@ -3,7 +3,7 @@ ghost use mathlib.Core.Path.{_≡_};
 ghost use Prim.Native.Nat.{_≤_, _<_};
 ghost use lib.ListN.{length, drop};
 ghost use Rattle.format.specs.Number.{digit, digits, hex, decimal};
-ghost use Rattle.replies.specs.Buffer.{buffer, appended};
+ghost use Rattle.numbers.specs.Buffer.{buffer, appended};
 use crate::buffer::append;
 
 // Appends a number in hex, with no leading zeros.

@@ -1,4 +1,4 @@
--- `replies::digits::spell` meets its contract: the digits still to be put, and those that stand from i on, make the number's.
+-- `numbers::digits::spell` meets its contract: the digits still to be put, and those that stand from i on, make the number's.
 -- Assumes nothing.
 use mathlib.Core.Path.{_≡_, refl, sym, _∙_}
 use mathlib.Core.List.{_++_, append-nil}
@@ -9,9 +9,9 @@ use lib.ListN.{length, drop, length-set}
 use lib.Seq.{drop-length}
 use borrow.Author.Needs.{needs}
 use Rattle.format.specs.Number.{digits}
-use Rattle.replies.proofs.DigitsLaws.{spelt-last, spelt-more}
-use Rattle.replies.proofs.digits.spell.Statement.{statement}
-use Rattle.replies.proofs.digits.spell.Tie as tie
+use Rattle.numbers.proofs.DigitsLaws.{spelt-last, spelt-more}
+use Rattle.numbers.proofs.digits.spell.Statement.{statement}
+use Rattle.numbers.proofs.digits.spell.Tie as tie
 
 abbrev Inv-loop : tie.InvT-loop
 Inv-loop n base spelt₀ rest₀ i₀ spelt rest i =
