@@ -4,6 +4,7 @@ pub mod AskedLaws
 pub mod Cut
 pub mod Digit
 pub mod Digits
+pub mod Examples
 pub mod Fields
 pub mod LineLaws
 pub mod Lines

@@ -1,5 +1,6 @@
--- The script's format: lines and what they say, replies, whole texts, and texts in pieces; and what is claimed of it.
+-- The script's format: lines and what they say, replies, whole texts, and texts in pieces; what is claimed of it; and examples.
 pub mod Ascii
+pub mod Examples
 pub mod Line
 pub mod Number
 pub mod Piece

@@ -53,12 +53,13 @@ areNumbers (field ∷ rest) = isNumber field and areNumbers rest
 unfoldable pub asks : ℕ → List (List ℕ) → Said
 asks letter others = pick (areNumbers others) (asked letter (map value others)) wrong
 
--- "a letter and its numbers"
+-- "a letter and its numbers": the first field is one byte
 unfoldable pub begun : List ℕ → List (List ℕ) → Said
 begun [] others = wrong
 begun (letter ∷ []) others = asks letter others
 begun (letter ∷ (byte ∷ rest)) others = wrong
 
+-- (there is always a first field)
 unfoldable pub spoken : List (List ℕ) → Said
 spoken [] = wrong
 spoken (first ∷ others) = begun first others

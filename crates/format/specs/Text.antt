@@ -29,7 +29,7 @@ callsOf [] = []
 callsOf (says call ∷ rest) = call ∷ callsOf rest
 callsOf (wrong ∷ rest) = callsOf rest
 
--- "prints one line a call": the replies to lines, with the calls that they say as they were made
+-- "prints one line a call": the replies to lines, with the calls that they say as they were made (there are as many)
 unfoldable pub replies : List Said → List Made → List ℕ
 replies [] made = []
 replies (wrong ∷ rest) made = wrongReply ++ replies rest made
