@@ -1,6 +1,6 @@
 -- The examples of lines, answers and texts follow from the definitions: the prover computes them.
 -- Assumes nothing.
-use mathlib.Core.Path.{_≡_, refl}
+use mathlib.Core.Path.{refl}
 use Rattle.words.specs.Choice.{pick, _and_}
 use Rattle.format.specs.Examples.{spokenLines, AsSpoken, printedAnswers, AsPrinted, partedTexts, AsParted}
 use Rattle.format.specs.Line.{longer, fields, isCall, asked, areNumbers, asks, begun, spoken, said}

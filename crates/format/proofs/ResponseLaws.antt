@@ -1,10 +1,9 @@
 -- What a text prints from a place on, and what it leaves, by the line there and the text after it; and past the end, nothing.
 -- Assumes nothing.
-use mathlib.Core.Path.{_≡_, refl, ap, _∙_}
-use mathlib.Core.List.{List, [], _∷_, _++_, append-nil}
+use mathlib.Core.Path.{_≡_, refl}
+use mathlib.Core.List.{List, [], _∷_, _++_}
 use Prim.Native.Nat.{ℕ, _≤_, _<_}
 use lib.ListN.{length, drop, drop-of-length-le}
-use Rattle.rules.specs.Calls.{step}
 use Rattle.rules.specs.History.{history, finally}
 use Rattle.rules.specs.State.{State}
 use Rattle.format.specs.Line.{Said, says, wrong, said}

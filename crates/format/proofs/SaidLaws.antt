@@ -1,9 +1,9 @@
 -- What a line says, by its length and its first two bytes: one letter, then a space, then the fields of the rest; any other beginning is
 -- wrong.
 -- Assumes nothing.
-use mathlib.Core.Path.{_≡_, refl, ap, _∙_}
-use mathlib.Core.Bool.{Bool, true, false}
-use mathlib.Core.List.{List, [], _∷_, map}
+use mathlib.Core.Path.{_≡_, refl, _∙_}
+use mathlib.Core.Bool.{false}
+use mathlib.Core.List.{List, [], _∷_}
 use mathlib.Core.Logic.{_≢_, ⊎-elim}
 use Prim.Native.Char.{code}
 use Prim.Native.Nat.{ℕ, _≤_, _<_}
@@ -12,8 +12,7 @@ use lib.Dec.{eqb}
 use lib.ListN.{length, getD, drop}
 use Rattle.words.specs.Choice.{pick, _and_}
 use Rattle.words.proofs.ChoiceLaws.{same-or-not, pick-same, and-not}
-use Rattle.format.specs.Number.{value}
-use Rattle.format.specs.Line.{Said, wrong, longer, isCall, asked, areNumbers, asks, begun, spoken, fields, said}
+use Rattle.format.specs.Line.{wrong, longer, isCall, asked, areNumbers, asks, begun, spoken, fields, said}
 use Rattle.format.proofs.Fields.{fields-byte, fields-space, fields-one}
 use Rattle.format.proofs.LineLaws.{said-short}
 

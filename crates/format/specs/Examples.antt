@@ -1,7 +1,6 @@
 -- 01, "The script program": lines and what they say, right ones and wrong ones; answers and how they are printed; texts and their lines.
 use mathlib.Core.Path.{_≡_}
 use mathlib.Core.List.{List, [], _∷_, map}
-use Prim.Native.Nat.{ℕ}
 use Prim.Native.String.{String}
 use Rattle.rules.specs.Answers.{Told, refused, done, none, closed, opened, already, word, count}
 use Rattle.rules.specs.Calls.{Call, RMPUPDATE, PVALIDATE, PFIX, PMERGE, PUNMERGE, PUNFIX, READ, WRITE, CENSUS}

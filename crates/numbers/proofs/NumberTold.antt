@@ -1,13 +1,12 @@
 -- What the code's number tells of its field: whether it is a number, and its value.
 -- Assumes nothing.
-use mathlib.Core.Path.{_≡_, refl, sym, _∙_}
+use mathlib.Core.Path.{_≡_, refl}
 use mathlib.Core.Bool.{Bool, true, false}
 use mathlib.Core.List.{List}
 use Prim.Native.Nat.{ℕ}
 use Rattle.words.specs.Choice.{pick}
 use Rattle.format.specs.Number.{isNumber, value}
 use Rattle.numbers.specs.Numeral.{numberOf}
-use Rattle.numbers.specs.declared.number.Number.{Number}
 use Rattle.numbers.specs.declared.number.Number.the-variants.{Value, NoNumber}
 
 by-value : (t : Bool) (n m : ℕ) → pick t (Value n) NoNumber ≡ Value m → (t ≡ true) × (n ≡ m)

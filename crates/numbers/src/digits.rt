@@ -10,17 +10,23 @@ use crate::buffer::append;
 pub fn append_hex(bytes: &mut [u8], filled: usize, n: u64) -> usize
     ensures { λ r. ⌜ buffer (now (bytes .exit)) r ≡ appended (buffer (now (bytes .entry)) filled) (hex n) ⌝ }
 {
-    let mut spelt = [0u8; 20];
-    let from = spell(n, 16, &mut spelt);
-    append(bytes, filled, &spelt[from..])
+    append_digits(bytes, filled, n, 16)
 }
 
 // Appends a number in decimal, with no leading zeros.
 pub fn append_decimal(bytes: &mut [u8], filled: usize, n: u64) -> usize
     ensures { λ r. ⌜ buffer (now (bytes .exit)) r ≡ appended (buffer (now (bytes .entry)) filled) (decimal n) ⌝ }
 {
+    append_digits(bytes, filled, n, 10)
+}
+
+// Appends the digits of a number in a base. No word has more than twenty.
+fn append_digits(bytes: &mut [u8], filled: usize, n: u64, base: u64) -> usize
+    requires { ⌜ (1 < base) × (base ≤ 16) ⌝ }
+    ensures { λ r. ⌜ buffer (now (bytes .exit)) r ≡ appended (buffer (now (bytes .entry)) filled) (digits base 20 n) ⌝ }
+{
     let mut spelt = [0u8; 20];
-    let from = spell(n, 10, &mut spelt);
+    let from = spell(n, base, &mut spelt);
     append(bytes, filled, &spelt[from..])
 }
 

@@ -1,9 +1,8 @@
 -- The bytes that `run` prints are those of the text, because there is room for all of them; and what is claimed of the text's calls holds.
 -- Assumes nothing.
 use mathlib.Core.Path.{_≡_, ap, _∙_}
-use native.Mathlib.Nat.{zero-add}
 use native.Mathlib.Omega.{arith}
-use lib.ListN.{length, take}
+use lib.ListN.{take}
 use Rattle.rules.specs.State.{emptyTable}
 use Rattle.format.specs.Text.{printed}
 use Rattle.format.proofs.Room.{room-enough}

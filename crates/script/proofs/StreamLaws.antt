@@ -1,15 +1,14 @@
 -- The first bytes of a text cut after their last line feed: the whole lines are what stands before the cut, and the unfinished line, or
 -- its first 121 bytes, is what is moved down.
 -- Assumes nothing.
-use mathlib.Core.Path.{_≡_, refl, sym, ap, _∙_}
+use mathlib.Core.Path.{_≡_, refl, sym, _∙_}
 use mathlib.Core.List.{List, [], _∷_}
 use mathlib.Core.Logic.{⊎-elim}
-use Prim.Native.Nat.{ℕ, zero, suc, _+_, _-_, _≤_, min}
+use Prim.Native.Nat.{ℕ, zero, suc, _-_, _≤_, min}
 use native.Mathlib.Nat.{zero-add}
 use native.Mathlib.Omega.{arith}
 use lib.ListN.{length, take, drop, length-take, length-drop}
 use lib.Seq.{paste, take-all, take-take, take-nil, length-take-le, getD-take}
-use Rattle.words.specs.Choice.{pick}
 use Rattle.words.proofs.ChoiceLaws.{lt-or-le}
 use Rattle.format.specs.Piece.{cut, wholeLines, unfinished}
 use Rattle.format.proofs.Cut.{cut-most}

@@ -1,6 +1,5 @@
 -- `lines::line::ask` meets its contract: the tests are those of the definition, which tells the calls apart by count and letter.
 -- Assumes nothing.
-use mathlib.Core.Path.{_≡_}
 use Rattle.words.specs.Choice.{pick, _and_}
 use Rattle.format.proofs.AskedLaws.{chosen, asked-first}
 use Rattle.lines.proofs.line.ask.Statement.{statement}

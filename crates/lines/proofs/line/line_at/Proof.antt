@@ -1,6 +1,6 @@
 -- `lines::line::line_at` meets its contract: `find` gives where the line ends, and the part up to there is the line.
 -- Assumes nothing.
-use mathlib.Core.Path.{_≡_, sym}
+use mathlib.Core.Path.{sym}
 use mathlib.Core.List.{[]}
 use native.Mathlib.Omega.{arith}
 use borrow.Author.Needs.{needs}

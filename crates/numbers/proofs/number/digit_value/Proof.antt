@@ -1,7 +1,6 @@
 -- `numbers::number::digit_value` meets its contract: the tests are the definition's, and the bounds that they give keep the differences from
 -- going below 0.
 -- Assumes nothing.
-use mathlib.Core.Path.{_≡_}
 use borrow.Author.Needs.{needs}
 use borrow.Author.Tests.{leb-true}
 use Rattle.words.specs.Choice.{pick, _and_}

@@ -1,7 +1,6 @@
 -- `script::run::respond` meets its contract: `step` promises the rules' outcome of the call, and `append_reply` that its reply is
 -- appended.
 -- Assumes nothing.
-use mathlib.Core.Path.{_≡_}
 use borrow.Author.Needs.{needs}
 use Rattle.format.specs.Reply.{wrongReply}
 use Rattle.format.specs.Response.{response, following}

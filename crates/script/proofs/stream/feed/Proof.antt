@@ -1,7 +1,7 @@
 -- `script::stream::feed` meets its contract: the lines before the cut are run, and what is moved down is the unfinished line, or as much of
 -- it as is kept.
 -- Assumes nothing.
-use mathlib.Core.Path.{_≡_, sym}
+use mathlib.Core.Path.{sym}
 use native.Mathlib.Omega.{arith}
 use lib.Seq.{length-take-le}
 use borrow.Author.Needs.{needs}

@@ -7,7 +7,7 @@ use Prim.Native.Nat.{ℕ, suc, _+_, _-_, _≤_, _<_}
 use native.Mathlib.Nat.{zero-add}
 use native.Mathlib.Omega.{arith}
 use lib.ListN.{length, getD, set, drop, length-drop, length-set}
-use lib.Seq.{paste, paste-zero, paste-suc, length-paste, drop-paste, getD-drop}
+use lib.Seq.{paste, paste-zero, paste-suc, drop-paste, getD-drop}
 use borrow.Author.Needs.{needs}
 use Rattle.script.proofs.stream.move_down.Statement.{statement}
 use Rattle.script.proofs.stream.move_down.Tie as tie
