@@ -1,2 +1,3 @@
--- What is claimed of the bytes that a script prints.
+-- What is claimed of the bytes that a script prints, whole or read in pieces.
 pub mod Printed
+pub mod Stream

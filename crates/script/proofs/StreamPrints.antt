@@ -1,0 +1,44 @@
+-- What the turns print together is what is printed for the pieces, turn by turn, and so for the text that they make up: there is room for
+-- each turn's bytes, and the unfinished line stands where the next piece is read.
+-- Assumes nothing.
+use mathlib.Core.Path.{_≡_, sym, ap, _∙_}
+use mathlib.Core.List.{List, [], _∷_, _++_}
+use Prim.Native.Nat.{ℕ, _*_, _≤_}
+use native.Mathlib.Omega.{arith}
+use lib.ListN.{length, take, drop, length-take, length-drop}
+use Rattle.rules.specs.State.{State}
+use Rattle.format.specs.Piece.{cut, wholeLines, unfinished, printedFor}
+use Rattle.format.specs.Text.{printed, after}
+use Rattle.format.proofs.Pieces.{any-pieces}
+use Rattle.script.specs.Stream.{Streamed, ended, fed, StreamPrints}
+use Rattle.script.proofs.AllPrinted.{all-appended, all-printed}
+
+whole-most : (text : List ℕ) → length (wholeLines text) ≤ length text
+unfolding wholeLines
+whole-most text = let count = length-take (cut text (length text)) text in omega arith
+
+unfinished-most : (text : List ℕ) → length (unfinished text) ≤ length text
+unfolding unfinished
+unfinished-most text =
+    let rest = drop (cut text (length text)) text in
+    let left = length-drop (cut text (length text)) text in
+    let count = length-take 121 rest in
+    omega arith
+
+as-pieces :
+    (s : State) (begun : List ℕ) (pieces : List (List ℕ)) (bytes : List ℕ)
+    → Streamed s begun pieces bytes → bytes ≡ printedFor s begun pieces
+unfolding printedFor
+as-pieces s begun [] bytes (ended out now count room is) = all-printed s begun out now count room is
+as-pieces s begun (piece ∷ pieces) bytes (fed text kept out now filled n count is room left prints keeps more) =
+    let text-most = length-take filled text in
+    let whole = whole-most (take filled text) in
+    let rest = unfinished-most (take filled text) in
+    let same = ap length is in
+    let printed-here = all-printed s (wholeLines (take filled text)) out now count (omega arith) prints in
+    let kept-here = all-appended text kept (unfinished (take filled text)) n (omega arith) keeps in
+    let tail = as-pieces _ _ pieces _ more in
+    rw (printed-here, tail, kept-here, left, is)
+
+pub stream-prints : StreamPrints
+stream-prints s pieces bytes all = as-pieces s [] pieces bytes all ∙ any-pieces s pieces
