@@ -1,14 +1,13 @@
 -- What the turns print together is what is printed for the pieces, turn by turn, and so for the text that they make up: there is room for
 -- each turn's bytes, and the unfinished line stands where the next piece is read.
 -- Assumes nothing.
-use mathlib.Core.Path.{_≡_, sym, ap, _∙_}
-use mathlib.Core.List.{List, [], _∷_, _++_}
-use Prim.Native.Nat.{ℕ, _*_, _≤_}
+use mathlib.Core.Path.{_≡_, ap, _∙_}
+use mathlib.Core.List.{List, [], _∷_}
+use Prim.Native.Nat.{ℕ, _≤_}
 use native.Mathlib.Omega.{arith}
 use lib.ListN.{length, take, drop, length-take, length-drop}
 use Rattle.rules.specs.State.{State}
 use Rattle.format.specs.Piece.{cut, wholeLines, unfinished, printedFor}
-use Rattle.format.specs.Text.{printed, after}
 use Rattle.format.proofs.Pieces.{any-pieces}
 use Rattle.script.specs.Stream.{Streamed, ended, fed, StreamPrints}
 use Rattle.script.proofs.AllPrinted.{all-appended, all-printed}
