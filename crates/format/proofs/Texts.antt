@@ -44,3 +44,7 @@ after-append s a b whole = rw (said-append a b whole) (finally-append s (saidBy 
 pub same-printed : (s : State) (a b : List ℕ) → saidBy a ≡ saidBy b → printed s a ≡ printed s b
 unfolding printed calls
 same-printed s a b same = rw same
+
+pub same-after : (s : State) (a b : List ℕ) → saidBy a ≡ saidBy b → after s a ≡ after s b
+unfolding after calls
+same-after s a b same = rw same

@@ -20,17 +20,23 @@ wholeLines text = take (cut text (length text)) text
 unfoldable pub unfinished : List ℕ → List ℕ
 unfinished text = take 121 (drop (cut text (length text)) text)
 
--- what is printed for a text in pieces, of which the first follows `begun`
+-- what is printed for a text in pieces, of which the first follows `begun`; and table and memory after it
 unfoldable pub printedFor : State → List ℕ → List (List ℕ) → List ℕ
 printedFor s begun [] = printed s begun
 printedFor s begun (piece ∷ rest) =
     let text = begun ++ piece in
     printed s (wholeLines text) ++ printedFor (after s (wholeLines text)) (unfinished text) rest
 
+unfoldable pub leftBy : State → List ℕ → List (List ℕ) → State
+leftBy s begun [] = after s begun
+leftBy s begun (piece ∷ rest) = let text = begun ++ piece in leftBy (after s (wholeLines text)) (unfinished text) rest
+
 unfoldable pub joined : List (List ℕ) → List ℕ
 joined [] = []
 joined (piece ∷ rest) = piece ++ joined rest
 
--- however a text is cut into pieces, what is printed is what is printed for the text
+-- however a text is cut into pieces, what is printed and what is left are those of the text
 abbrev pub AnyPieces : Type 0
-AnyPieces = (s : State) (pieces : List (List ℕ)) → printedFor s [] pieces ≡ printed s (joined pieces)
+AnyPieces =
+    (s : State) (pieces : List (List ℕ))
+    → (printedFor s [] pieces ≡ printed s (joined pieces)) × (leftBy s [] pieces ≡ after s (joined pieces))
