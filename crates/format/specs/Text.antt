@@ -56,6 +56,9 @@ TextDemand3 =
     (map (λ (m : Made). m .call) made ≡ calls text)
     × ((printed start text ≡ replies (saidBy text) made) × NoCounterGoesBack made (after start text))
 
--- how much room what is printed for a text takes
+-- how much room is enough for what is printed for a text, whatever table and memory are
+abbrev pub room : List ℕ → ℕ
+room text = 54 * length text
+
 abbrev pub RoomEnough : Type 0
-RoomEnough = (s : State) (text : List ℕ) → length (printed s text) ≤ 54 * length text
+RoomEnough = (s : State) (text : List ℕ) → length (printed s text) ≤ room text

@@ -44,6 +44,6 @@ abbrev pub AreWords : List ℕ → Type 0
 AreWords [] = Unit {0}
 AreWords (n ∷ rest) = (n < 2 ^ 64) × AreWords rest
 
--- "parsing what the printer of a call would write gives the call"
+-- reading what is written for a call gives the call
 abbrev pub RoundTrip : Type 0
 RoundTrip = (call : Call) → AreWords (numbers call) → said (written call) ≡ says call

@@ -59,7 +59,7 @@ pub fn append_answer(bytes: &mut [u8], filled: usize, answer: Answer) -> usize
     }
 }
 
-// The word for an accepted RMPUPDATE that closed a page.
+// What RMPUPDATE answers where it closed a page.
 fn append_closed(bytes: &mut [u8], filled: usize, asid: u64, gpa: u64) -> usize
     ensures { λ r. ⌜ buffer (now (bytes .exit)) r ≡ appended (buffer (now (bytes .entry)) filled) (answered (closed asid gpa)) ⌝ }
 {
@@ -69,6 +69,7 @@ fn append_closed(bytes: &mut [u8], filled: usize, asid: u64, gpa: u64) -> usize
     append_hex(bytes, space, gpa)
 }
 
+// The number that READ or CENSUS answers.
 fn append_number(bytes: &mut [u8], filled: usize, number: u64) -> usize
     ensures { λ r. ⌜ buffer (now (bytes .exit)) r ≡ appended (buffer (now (bytes .entry)) filled) (answered (count number)) ⌝ }
 {

@@ -10,7 +10,7 @@ use script::stream::feed;
 // 54 bytes of output, so that all that is printed has room.
 const TEXT: usize = 4096;
 
-const OUT: usize = 221184;
+const OUT: usize = 54 * TEXT;
 
 // What is to be done after a piece: more is to be read, behind the bytes that were kept; or nothing.
 enum Next {
@@ -41,7 +41,7 @@ fn run_all(table: &mut [u64], memory: &mut [u64], text: &mut [u8], out: &mut [u8
 }
 
 // Reads once, behind the `kept` bytes of an unfinished line, and runs what there is. At the end of the input the unfinished line is the
-// last one. Where a read fails it is not run: it may not be whole.
+// last one. Where a read fails it is not run: it may not be whole. (Of a line 121 bytes are kept at most, so there is always room to read.)
 fn run_piece(
     table: &mut [u64],
     memory: &mut [u64],
@@ -73,7 +73,7 @@ fn run_piece(
     Next::Stop
 }
 
-// Writes the first `printed` bytes, and answers whether all of them went out.
+// Writes the first `printed` bytes, which are never more than there are, and answers whether all of them went out.
 fn print(out: &[u8], printed: usize) -> bool {
     if printed > out.len() {
         return false;

@@ -2,11 +2,11 @@
 -- `run` does. What is printed in all turns together, and what is left after the last, are those of the text.
 use mathlib.Core.Path.{_≡_}
 use mathlib.Core.List.{List, [], _∷_, _++_}
-use Prim.Native.Nat.{ℕ, _*_, _≤_}
+use Prim.Native.Nat.{ℕ, _≤_}
 use lib.ListN.{length, take}
 use Rattle.rules.specs.State.{State}
 use Rattle.format.specs.Piece.{wholeLines, unfinished, joined}
-use Rattle.format.specs.Text.{printed, after}
+use Rattle.format.specs.Text.{printed, after, room}
 use Rattle.numbers.specs.Buffer.{buffer, appended}
 
 -- from table and memory, and the bytes of an unfinished line: pieces that are still to be read, all that is printed for them, and table
@@ -15,7 +15,7 @@ pub data Streamed : State → List ℕ → List (List ℕ) → List ℕ → Stat
   -- the input has ended: `run` is given the unfinished line
   ended :
       {s end : State} {begun : List ℕ} (out now : List ℕ) (count : ℕ)
-      → 54 * length begun ≤ length out
+      → room begun ≤ length out
       → end ≡ after s begun
       → buffer now count ≡ appended (buffer out 0) (printed s begun)
       → Streamed s begun [] (take count now) end
@@ -23,7 +23,7 @@ pub data Streamed : State → List ℕ → List (List ℕ) → List ℕ → Stat
   fed :
       {s left end : State} {begun piece bytes : List ℕ} {pieces : List (List ℕ)}
       (text kept out now : List ℕ) (filled length-kept count : ℕ)
-      → take filled text ≡ begun ++ piece → 54 * length (begun ++ piece) ≤ length out
+      → take filled text ≡ begun ++ piece → room (begun ++ piece) ≤ length out
       → left ≡ after s (wholeLines (take filled text))
       → buffer now count ≡ appended (buffer out 0) (printed s (wholeLines (take filled text)))
       → buffer kept length-kept ≡ appended (buffer text 0) (unfinished (take filled text))
