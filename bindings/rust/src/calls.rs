@@ -1,0 +1,263 @@
+//! The nine calls. This is the only file with unsafe code: each function hands the pointers and lengths of its slices to the library.
+//!
+//! What the library asks of a caller is true of a slice by its type: a pointer that is not null, aligned, to that many words, which
+//! nobody else writes to meanwhile. Two slices of which one is `&mut` do not overlap. Whatever words and numbers are, it answers.
+#![allow(unsafe_code)]
+
+use crate::answer::{Answer, Flat, Refusal};
+
+// As `include/skorbilek.h` has them.
+#[rustfmt::skip]
+extern "C" {
+    fn skorbilek_rmpupdate(table: *mut u64, table_words: usize, memory: *mut u64, memory_words: usize,
+        caller: u64, hpa: u64, gpa: u64, asid: u64, kind: u64) -> Flat;
+    fn skorbilek_pvalidate(table: *mut u64, table_words: usize, memory: *const u64, memory_words: usize,
+        caller: u64, gpa: u64, hpa: u64, kind: u64) -> Flat;
+    fn skorbilek_pfix(table: *mut u64, table_words: usize, memory: *mut u64, memory_words: usize,
+        caller: u64, hpa: u64, leaf: u64) -> Flat;
+    fn skorbilek_pmerge(table: *mut u64, table_words: usize, memory: *mut u64, memory_words: usize,
+        caller: u64, hpa1: u64, hpa2: u64) -> Flat;
+    fn skorbilek_punmerge(table: *mut u64, table_words: usize, memory: *mut u64, memory_words: usize,
+        caller: u64, hpa1: u64, hpa2: u64, asid: u64) -> Flat;
+    fn skorbilek_punfix(table: *mut u64, table_words: usize, memory: *mut u64, memory_words: usize,
+        caller: u64, hpa: u64) -> Flat;
+    fn skorbilek_read(table: *const u64, table_words: usize, memory: *const u64, memory_words: usize,
+        caller: u64, gpa: u64, hpa: u64, gtype: u64, ntype: u64, index: u64) -> Flat;
+    fn skorbilek_write(table: *const u64, table_words: usize, memory: *mut u64, memory_words: usize,
+        caller: u64, gpa: u64, hpa: u64, gtype: u64, ntype: u64, index: u64, value: u64) -> Flat;
+    fn skorbilek_census(table: *const u64, table_words: usize, memory: *const u64, memory_words: usize,
+        asid: u64) -> Flat;
+}
+
+/// RMPUPDATE: the host gives the frame at `hpa` to the guest `asid` at its address `gpa`, as a page of the type `kind`; or makes it
+/// SHARED or a LEAF, with `asid` and `gpa` 0. Answers [`Answer::None`] or [`Answer::Closed`].
+///
+/// ```
+/// # use skorbilek::{pvalidate, rmpupdate, Answer, Refusal, HOST, PRIVATE, SHARED};
+/// # let (mut table, mut memory) = ([0; 16], vec![0; 5120]);
+/// assert_eq!(rmpupdate(&mut table, &mut memory, HOST, 0x1000, 0x50000, 7, PRIVATE)?, Answer::None);
+/// pvalidate(&mut table, &memory, 7, 0x50000, 0x1000, PRIVATE)?;
+///
+/// // the host takes the frame back, which closes the guest's page
+/// let taken = rmpupdate(&mut table, &mut memory, HOST, 0x1000, 0, 0, SHARED)?;
+/// assert_eq!(taken, Answer::Closed { asid: 7, gpa: 0x50000 });
+///
+/// // a guest can't
+/// assert_eq!(rmpupdate(&mut table, &mut memory, 7, 0x1000, 0, 0, SHARED), Err(Refusal::Caller));
+/// # Ok::<(), Refusal>(())
+/// ```
+#[allow(clippy::too_many_arguments)]
+pub fn rmpupdate(
+    table: &mut [u64],
+    memory: &mut [u64],
+    caller: u64,
+    hpa: u64,
+    gpa: u64,
+    asid: u64,
+    kind: u64,
+) -> Result<Answer, Refusal> {
+    let (t, n) = (table.as_mut_ptr(), table.len());
+    let (m, w) = (memory.as_mut_ptr(), memory.len());
+    // SAFETY: the pointers and lengths are those of slices (see the head of this file), as in every call below.
+    unsafe { skorbilek_rmpupdate(t, n, m, w, caller, hpa, gpa, asid, kind) }.answer()
+}
+
+/// PVALIDATE: the guest `caller` accepts the frame at `hpa` as its page at `gpa`, of the type `kind`. Answers [`Answer::Opened`] or
+/// [`Answer::Already`].
+///
+/// ```
+/// # use skorbilek::{pvalidate, rmpupdate, Answer, Refusal, HOST, PRIVATE};
+/// # let (mut table, mut memory) = ([0; 16], vec![0; 5120]);
+/// rmpupdate(&mut table, &mut memory, HOST, 0x1000, 0x50000, 7, PRIVATE)?;
+/// assert_eq!(pvalidate(&mut table, &memory, 9, 0x50000, 0x1000, PRIVATE), Err(Refusal::Owner));
+/// assert_eq!(pvalidate(&mut table, &memory, 7, 0x50000, 0x1000, PRIVATE)?, Answer::Opened);
+/// assert_eq!(pvalidate(&mut table, &memory, 7, 0x50000, 0x1000, PRIVATE)?, Answer::Already);
+/// # Ok::<(), Refusal>(())
+/// ```
+pub fn pvalidate(
+    table: &mut [u64],
+    memory: &[u64],
+    caller: u64,
+    gpa: u64,
+    hpa: u64,
+    kind: u64,
+) -> Result<Answer, Refusal> {
+    let (t, n) = (table.as_mut_ptr(), table.len());
+    let (m, w) = (memory.as_ptr(), memory.len());
+    unsafe { skorbilek_pvalidate(t, n, m, w, caller, gpa, hpa, kind) }.answer()
+}
+
+/// PFIX: the host fixes the MERGEABLE page at `hpa`, with the LEAF at `leaf`, so that others can be merged into it. Answers
+/// [`Answer::Done`]. [`pmerge`] has an example.
+pub fn pfix(
+    table: &mut [u64],
+    memory: &mut [u64],
+    caller: u64,
+    hpa: u64,
+    leaf: u64,
+) -> Result<Answer, Refusal> {
+    let (t, n) = (table.as_mut_ptr(), table.len());
+    let (m, w) = (memory.as_mut_ptr(), memory.len());
+    unsafe { skorbilek_pfix(t, n, m, w, caller, hpa, leaf) }.answer()
+}
+
+/// PMERGE: the host merges the page at `hpa2` into the fixed page at `hpa1`, which has equal contents; the frame at `hpa2` becomes
+/// SHARED. Answers [`Answer::Done`].
+///
+/// ```
+/// # use skorbilek::*;
+/// # let (mut table, mut memory) = ([0; 16], vec![0; 5120]);
+/// // two guests, each with a page of zeros
+/// for (guest, gpa, hpa) in [(7, 0x50000, 0x1000), (9, 0x60000, 0x2000)] {
+///     rmpupdate(&mut table, &mut memory, HOST, hpa, gpa, guest, MERGEABLE)?;
+///     pvalidate(&mut table, &memory, guest, gpa, hpa, MERGEABLE)?;
+/// }
+///
+/// // the host makes frame 3 a leaf, fixes guest 7's page with it, and merges guest 9's page into that
+/// rmpupdate(&mut table, &mut memory, HOST, 0x3000, 0, 0, LEAF)?;
+/// pfix(&mut table, &mut memory, HOST, 0x1000, 0x3000)?;
+/// pmerge(&mut table, &mut memory, HOST, 0x1000, 0x2000)?;
+///
+/// // guest 9 reads its page through frame 1 now, and nobody can write there
+/// let word = read(&table, &memory, 9, 0x60000, 0x1000, MERGEABLE, MERGEABLE, 3)?;
+/// assert_eq!(word, Answer::Word(0));
+/// let written = write(&table, &mut memory, 7, 0x50000, 0x1000, MERGEABLE, MERGEABLE, 3, 1);
+/// assert_eq!(written, Err(Refusal::Fixed));
+/// # Ok::<(), Refusal>(())
+/// ```
+pub fn pmerge(
+    table: &mut [u64],
+    memory: &mut [u64],
+    caller: u64,
+    hpa1: u64,
+    hpa2: u64,
+) -> Result<Answer, Refusal> {
+    let (t, n) = (table.as_mut_ptr(), table.len());
+    let (m, w) = (memory.as_mut_ptr(), memory.len());
+    unsafe { skorbilek_pmerge(t, n, m, w, caller, hpa1, hpa2) }.answer()
+}
+
+/// PUNMERGE: the host moves the guest `asid` out of the fixed page at `hpa1` into a copy in the SHARED frame at `hpa2`. Answers
+/// [`Answer::Done`].
+///
+/// ```
+/// # use skorbilek::*;
+/// # let (mut table, mut memory) = ([0; 16], vec![0; 5120]);
+/// # rmpupdate(&mut table, &mut memory, HOST, 0x1000, 0x50000, 7, MERGEABLE)?;
+/// # pvalidate(&mut table, &memory, 7, 0x50000, 0x1000, MERGEABLE)?;
+/// # rmpupdate(&mut table, &mut memory, HOST, 0x3000, 0, 0, LEAF)?;
+/// # pfix(&mut table, &mut memory, HOST, 0x1000, 0x3000)?;
+/// // guest 7 is in the fixed page in frame 1; guest 8 is not
+/// assert_eq!(punmerge(&mut table, &mut memory, HOST, 0x1000, 0x4000, 8), Err(Refusal::NoPlace));
+/// punmerge(&mut table, &mut memory, HOST, 0x1000, 0x4000, 7)?;
+/// write(&table, &mut memory, 7, 0x50000, 0x4000, MERGEABLE, MERGEABLE, 3, 1)?;
+/// # Ok::<(), Refusal>(())
+/// ```
+pub fn punmerge(
+    table: &mut [u64],
+    memory: &mut [u64],
+    caller: u64,
+    hpa1: u64,
+    hpa2: u64,
+    asid: u64,
+) -> Result<Answer, Refusal> {
+    let (t, n) = (table.as_mut_ptr(), table.len());
+    let (m, w) = (memory.as_mut_ptr(), memory.len());
+    unsafe { skorbilek_punmerge(t, n, m, w, caller, hpa1, hpa2, asid) }.answer()
+}
+
+/// PUNFIX: the host gives the fixed page at `hpa` back to its owner, the last guest in it; its leaf becomes SHARED. Answers
+/// [`Answer::Done`].
+///
+/// ```
+/// # use skorbilek::*;
+/// # let (mut table, mut memory) = ([0; 16], vec![0; 5120]);
+/// # rmpupdate(&mut table, &mut memory, HOST, 0x1000, 0x50000, 7, MERGEABLE)?;
+/// # pvalidate(&mut table, &memory, 7, 0x50000, 0x1000, MERGEABLE)?;
+/// # rmpupdate(&mut table, &mut memory, HOST, 0x3000, 0, 0, LEAF)?;
+/// # pfix(&mut table, &mut memory, HOST, 0x1000, 0x3000)?;
+/// // guest 7 alone is in the fixed page in frame 1
+/// punfix(&mut table, &mut memory, HOST, 0x1000)?;
+/// assert_eq!(punfix(&mut table, &mut memory, HOST, 0x1000), Err(Refusal::NotFixed));
+/// # Ok::<(), Refusal>(())
+/// ```
+pub fn punfix(
+    table: &mut [u64],
+    memory: &mut [u64],
+    caller: u64,
+    hpa: u64,
+) -> Result<Answer, Refusal> {
+    let (t, n) = (table.as_mut_ptr(), table.len());
+    let (m, w) = (memory.as_mut_ptr(), memory.len());
+    unsafe { skorbilek_punfix(t, n, m, w, caller, hpa) }.answer()
+}
+
+/// READ: `caller` reads word `index` (0 to 511) of its page at `gpa`, in the frame at `hpa`. `gtype` and `ntype` are the types that
+/// the guest and the host give the page. Answers [`Answer::Word`].
+///
+/// ```
+/// # use skorbilek::{read, Answer, Refusal, HOST, PRIVATE, SHARED};
+/// # let (table, mut memory) = ([0; 16], vec![0; 5120]);
+/// // any party reads a SHARED frame; the host can't read any other
+/// memory[512 * 2 + 3] = 42;
+/// assert_eq!(read(&table, &memory, HOST, 0, 0x2000, SHARED, SHARED, 3)?, Answer::Word(42));
+/// assert_eq!(read(&table, &memory, HOST, 0, 0x2000, PRIVATE, PRIVATE, 3), Err(Refusal::Caller));
+/// # Ok::<(), Refusal>(())
+/// ```
+#[allow(clippy::too_many_arguments)]
+pub fn read(
+    table: &[u64],
+    memory: &[u64],
+    caller: u64,
+    gpa: u64,
+    hpa: u64,
+    gtype: u64,
+    ntype: u64,
+    index: u64,
+) -> Result<Answer, Refusal> {
+    let (t, n) = (table.as_ptr(), table.len());
+    let (m, w) = (memory.as_ptr(), memory.len());
+    unsafe { skorbilek_read(t, n, m, w, caller, gpa, hpa, gtype, ntype, index) }.answer()
+}
+
+/// WRITE: `caller` writes `value` to word `index` of its page at `gpa`, in the frame at `hpa`. Answers [`Answer::Done`].
+///
+/// ```
+/// # use skorbilek::{write, Answer, Refusal, HOST, SHARED};
+/// # let (table, mut memory) = ([0; 16], vec![0; 5120]);
+/// write(&table, &mut memory, HOST, 0, 0x2000, SHARED, SHARED, 3, 42)?;
+/// assert_eq!(memory[512 * 2 + 3], 42);
+/// assert_eq!(write(&table, &mut memory, HOST, 0, 0x2000, SHARED, SHARED, 512, 42), Err(Refusal::Argument));
+/// # Ok::<(), Refusal>(())
+/// ```
+#[allow(clippy::too_many_arguments)]
+pub fn write(
+    table: &[u64],
+    memory: &mut [u64],
+    caller: u64,
+    gpa: u64,
+    hpa: u64,
+    gtype: u64,
+    ntype: u64,
+    index: u64,
+    value: u64,
+) -> Result<Answer, Refusal> {
+    let (t, n) = (table.as_ptr(), table.len());
+    let (m, w) = (memory.as_mut_ptr(), memory.len());
+    unsafe { skorbilek_write(t, n, m, w, caller, gpa, hpa, gtype, ntype, index, value) }.answer()
+}
+
+/// CENSUS: how many places the guest `asid` has, over all its addresses. Anyone may call it. Answers [`Answer::Count`].
+///
+/// ```
+/// # use skorbilek::{census, Answer, Refusal};
+/// # let (table, memory) = ([0; 16], vec![0; 5120]);
+/// assert_eq!(census(&table, &memory, 7)?, Answer::Count(0));
+/// assert_eq!(census(&table[1..], &memory, 7), Err(Refusal::Geometry));
+/// # Ok::<(), Refusal>(())
+/// ```
+pub fn census(table: &[u64], memory: &[u64], asid: u64) -> Result<Answer, Refusal> {
+    let (t, n) = (table.as_ptr(), table.len());
+    let (m, w) = (memory.as_ptr(), memory.len());
+    unsafe { skorbilek_census(t, n, m, w, asid) }.answer()
+}

@@ -1,0 +1,25 @@
+-- `ffi::skorbilek_pfix` meets its contract: the call's own promise, carried through the flattening of its answer.
+-- Assumes nothing.
+use borrow.Author.Needs.{needs}
+use Rattle.ffi.proofs.Carried.{carried}
+use Rattle.ffi.proofs.skorbilek_pfix.Statement.{statement}
+use Rattle.ffi.proofs.skorbilek_pfix.Tie as tie
+
+pfix-requires : tie.Need-pfix-requires
+pfix-requires c κs = search needs
+
+flatten-requires : tie.Need-flatten-requires
+flatten-requires c κs = search needs
+
+same-length : tie.Need-same-length
+same-length c = search needs
+
+same-length-2 : tie.Need-same-length-2
+same-length-2 c = search needs
+
+returns : tie.Need-returns
+returns c = carried (c .before .before .before .before .before .pfix .ensures) (c .flatten .ensures)
+
+pub skorbilek-pfix-spec : {M : Type 1} → statement M
+skorbilek-pfix-spec =
+    tie.close (tie.spec pfix-requires flatten-requires same-length same-length-2 returns)

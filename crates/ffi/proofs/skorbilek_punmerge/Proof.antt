@@ -1,0 +1,25 @@
+-- `ffi::skorbilek_punmerge` meets its contract: the call's own promise, carried through the flattening of its answer.
+-- Assumes nothing.
+use borrow.Author.Needs.{needs}
+use Rattle.ffi.proofs.Carried.{carried}
+use Rattle.ffi.proofs.skorbilek_punmerge.Statement.{statement}
+use Rattle.ffi.proofs.skorbilek_punmerge.Tie as tie
+
+punmerge-requires : tie.Need-punmerge-requires
+punmerge-requires c κs = search needs
+
+flatten-requires : tie.Need-flatten-requires
+flatten-requires c κs = search needs
+
+same-length : tie.Need-same-length
+same-length c = search needs
+
+same-length-2 : tie.Need-same-length-2
+same-length-2 c = search needs
+
+returns : tie.Need-returns
+returns c = carried (c .before .before .before .before .before .punmerge .ensures) (c .flatten .ensures)
+
+pub skorbilek-punmerge-spec : {M : Type 1} → statement M
+skorbilek-punmerge-spec =
+    tie.close (tie.spec punmerge-requires flatten-requires same-length same-length-2 returns)

@@ -1,0 +1,22 @@
+-- `ffi::skorbilek_pvalidate` meets its contract: the call's own promise, carried through the flattening of its answer.
+-- Assumes nothing.
+use borrow.Author.Needs.{needs}
+use Rattle.ffi.proofs.Carried.{carried}
+use Rattle.ffi.proofs.skorbilek_pvalidate.Statement.{statement}
+use Rattle.ffi.proofs.skorbilek_pvalidate.Tie as tie
+
+pvalidate-requires : tie.Need-pvalidate-requires
+pvalidate-requires c κs = search needs
+
+flatten-requires : tie.Need-flatten-requires
+flatten-requires c κs = search needs
+
+same-length : tie.Need-same-length
+same-length c = search needs
+
+returns : tie.Need-returns
+returns c = carried (c .before .before .before .pvalidate .ensures) (c .flatten .ensures)
+
+pub skorbilek-pvalidate-spec : {M : Type 1} → statement M
+skorbilek-pvalidate-spec =
+    tie.close (tie.spec pvalidate-requires flatten-requires same-length returns)

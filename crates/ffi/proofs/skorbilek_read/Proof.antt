@@ -1,0 +1,18 @@
+-- `ffi::skorbilek_read` meets its contract: the call's own promise, carried through the flattening of its answer.
+-- Assumes nothing.
+use borrow.Author.Needs.{needs}
+use Rattle.ffi.proofs.Carried.{carried}
+use Rattle.ffi.proofs.skorbilek_read.Statement.{statement}
+use Rattle.ffi.proofs.skorbilek_read.Tie as tie
+
+read-requires : tie.Need-read-requires
+read-requires c κs = search needs
+
+flatten-requires : tie.Need-flatten-requires
+flatten-requires c κs = search needs
+
+returns : tie.Need-returns
+returns c = carried (c .before .read .ensures) (c .flatten .ensures)
+
+pub skorbilek-read-spec : {M : Type 1} → statement M
+skorbilek-read-spec = tie.close (tie.spec read-requires flatten-requires returns)

@@ -1,0 +1,21 @@
+-- `ffi::skorbilek_write` meets its contract: the call's own promise, carried through the flattening of its answer.
+-- Assumes nothing.
+use borrow.Author.Needs.{needs}
+use Rattle.ffi.proofs.Carried.{carried}
+use Rattle.ffi.proofs.skorbilek_write.Statement.{statement}
+use Rattle.ffi.proofs.skorbilek_write.Tie as tie
+
+write-requires : tie.Need-write-requires
+write-requires c κs = search needs
+
+flatten-requires : tie.Need-flatten-requires
+flatten-requires c κs = search needs
+
+same-length : tie.Need-same-length
+same-length c = search needs
+
+returns : tie.Need-returns
+returns c = carried (c .before .before .before .write .ensures) (c .flatten .ensures)
+
+pub skorbilek-write-spec : {M : Type 1} → statement M
+skorbilek-write-spec = tie.close (tie.spec write-requires flatten-requires same-length returns)

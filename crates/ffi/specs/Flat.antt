@@ -1,0 +1,57 @@
+-- The answers of the rules as C gets them: "the refusal's number or 0, the answer's kind, its values", in a struct of five numbers. What
+-- an answer does not have is 0.
+use mathlib.Core.List.{List}
+use Prim.Native.Nat.{ℕ}
+use Rattle.rules.specs.Answers.{Told, refused, done, none, closed, opened, already, word, count, Outcome}
+use Rattle.rules.specs.State.{State, state}
+use Rattle.ffi.specs.declared.answer.Flat.{Flat}
+
+-- the kinds
+abbrev pub REFUSED : ℕ
+REFUSED = 0
+
+abbrev pub DONE : ℕ
+DONE = 1
+
+abbrev pub NONE : ℕ
+NONE = 2
+
+abbrev pub CLOSED : ℕ
+CLOSED = 3
+
+abbrev pub OPENED : ℕ
+OPENED = 4
+
+abbrev pub ALREADY : ℕ
+ALREADY = 5
+
+abbrev pub WORD : ℕ
+WORD = 6
+
+abbrev pub COUNT : ℕ
+COUNT = 7
+
+abbrev pub numbers : ℕ → ℕ → ℕ → ℕ → ℕ → Flat
+numbers refusal kind asid gpa value =
+    record { refusal = refusal; kind = kind; asid = asid; gpa = gpa; value = value }
+
+unfoldable pub flat : Told → Flat
+flat (refused number) = numbers number REFUSED 0 0 0
+flat done = numbers 0 DONE 0 0 0
+flat none = numbers 0 NONE 0 0 0
+flat (closed asid gpa) = numbers 0 CLOSED asid gpa 0
+flat opened = numbers 0 OPENED 0 0 0
+flat already = numbers 0 ALREADY 0 0 0
+flat (word value) = numbers 0 WORD 0 0 value
+flat (count places) = numbers 0 COUNT 0 0 places
+
+-- what a function returns, with the table and memory that it left; and an outcome of the rules, so returned
+pub record Returned : Type 0 where
+  pub answer : Flat
+  pub after : State
+
+abbrev pub returned : Flat → List ℕ → List ℕ → Returned
+returned answer table memory = record { answer = answer; after = state table memory }
+
+unfoldable pub flattened : Outcome → Returned
+flattened o = record { answer = flat (o .told); after = o .after }

@@ -1,0 +1,2 @@
+-- The answers as C gets them.
+pub mod Flat

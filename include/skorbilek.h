@@ -1,0 +1,127 @@
+/*
+ * The nine calls of the Skorbilek page ownership monitor, for C11 and C++.
+ *
+ * Link with libskorbilek.a, which `./skorbilek build` makes. docs/CALLS.md has each call's checks in order, what it changes and what it
+ * answers; that the functions follow these rules, on every input, is proved (docs/PROMISES.md).
+ *
+ * Table and memory are runs of 64-bit words that the caller lends, each as a pointer and a number of words (not bytes). Any words will
+ * do, and any numbers as arguments: every call checks all of them itself and answers. A wrong length is refusal 1. What a caller owes:
+ *   - each pointer is aligned as a uint64_t, is not NULL, and points to that many words; the two runs do not overlap;
+ *   - nobody else touches the two runs while a call runs, but for other calls that take both as const;
+ *   - a run of calls starts with a table of zeros, and nothing but these calls changes table and memory from then on. (This one is for
+ *     the promise that no counter goes back. Without it every call still answers by its rule.)
+ * The library keeps no state, allocates nothing, and calls nothing but memset and memmove.
+ */
+#ifndef SKORBILEK_H
+#define SKORBILEK_H
+
+#include <stddef.h>
+#include <stdint.h>
+
+#ifdef __cplusplus
+extern "C" {
+#endif
+
+/* Sizes. With N frames in the table and M in memory: 1 <= N <= 4,096 and N <= M <= 8,192. */
+enum {
+    SKORBILEK_FRAME_BYTES = 4096, /* bytes of a frame; addresses are multiples of it below 2^52 */
+    SKORBILEK_FRAME_WORDS = 512,  /* words of a frame: memory has 512 * M words */
+    SKORBILEK_ENTRY_WORDS = 2,    /* words of an entry: the table has 2 * N words */
+    SKORBILEK_MAX_ENTRIES = 4096, /* the greatest N */
+    SKORBILEK_MAX_FRAMES = 8192,  /* the greatest M */
+    SKORBILEK_MAX_ASID = 511      /* guests are 1 to 511; 0 is the host */
+};
+
+/* Types of a page: the argument `type` of rmpupdate and pvalidate, `gtype` and `ntype` of read and write. */
+enum {
+    SKORBILEK_TYPE_SHARED = 0,    /* nobody's: any party may read and write it */
+    SKORBILEK_TYPE_PRIVATE = 1,   /* a guest's own */
+    SKORBILEK_TYPE_MERGEABLE = 2, /* a guest's own, and may be merged with equal ones */
+    SKORBILEK_TYPE_LEAF = 3       /* holds the guests of a merged page: no party may read or write it */
+};
+
+/* What kind of answer it is, and which fields of skorbilek_answer it fills. */
+enum {
+    SKORBILEK_REFUSED = 0, /* any call: `refusal` says why; table and memory are as they were */
+    SKORBILEK_DONE = 1,    /* pfix, pmerge, punmerge, punfix, write: accepted */
+    SKORBILEK_NONE = 2,    /* rmpupdate: accepted, and no open page was closed */
+    SKORBILEK_CLOSED = 3,  /* rmpupdate: accepted, and the page of guest `asid` at `gpa` was closed */
+    SKORBILEK_OPENED = 4,  /* pvalidate: the page is open now */
+    SKORBILEK_ALREADY = 5, /* pvalidate: the page was open already */
+    SKORBILEK_WORD = 6,    /* read: `value` is the word */
+    SKORBILEK_COUNT = 7    /* census: `value` is the number of places */
+};
+
+/* Why a call was refused. The checks of a call are made in a fixed order, and the first that fails gives its number. */
+enum {
+    SKORBILEK_REFUSAL_GEOMETRY = 1,       /* the lengths of table and memory break the sizes */
+    SKORBILEK_REFUSAL_ARGUMENT = 2,       /* no address, an ASID or word index above 511, a type that is not allowed */
+    SKORBILEK_REFUSAL_CALLER = 3,         /* the call is not this party's */
+    SKORBILEK_REFUSAL_OUTSIDE = 4,        /* a named frame is N or above (read, write: M or above) */
+    SKORBILEK_REFUSAL_BAD_ENTRY = 5,      /* the entry of a named frame is not well formed */
+    SKORBILEK_REFUSAL_TYPE = 6,           /* the type is not the one needed */
+    SKORBILEK_REFUSAL_OWNER = 7,          /* the page is another party's */
+    SKORBILEK_REFUSAL_ADDRESS = 8,        /* the page is at another guest address */
+    SKORBILEK_REFUSAL_NOT_VALIDATED = 9,  /* the guest has not accepted the page */
+    SKORBILEK_REFUSAL_FIXED = 10,         /* the page is fixed and must not be */
+    SKORBILEK_REFUSAL_NOT_FIXED = 11,     /* the page is not fixed and must be */
+    SKORBILEK_REFUSAL_BROKEN_LEAF = 12,   /* the leaf's entry is no well formed LEAF, or the word consulted is misshapen */
+    SKORBILEK_REFUSAL_NO_PLACE = 13,      /* the guest has no place in the fixed page */
+    SKORBILEK_REFUSAL_PLACE_TAKEN = 14,   /* the guest has a place in the fixed page already */
+    SKORBILEK_REFUSAL_LEAF_IN_USE = 15,   /* another fixed page has this leaf */
+    SKORBILEK_REFUSAL_CONTENTS = 16,      /* the two frames differ */
+    SKORBILEK_REFUSAL_STILL_SHARED = 17   /* another guest than the owner is left in the leaf */
+};
+
+/* An answer. A field that its kind does not fill is 0. */
+typedef struct skorbilek_answer {
+    uint64_t refusal; /* the refusal's number, 1 to 17; 0 if the call was accepted */
+    uint64_t kind;    /* SKORBILEK_REFUSED .. SKORBILEK_COUNT */
+    uint64_t asid;    /* CLOSED: whose page */
+    uint64_t gpa;     /* CLOSED: the address that it had */
+    uint64_t value;   /* WORD: the word; COUNT: how many places */
+} skorbilek_answer;
+
+/* RMPUPDATE: the host gives the frame at hpa to guest asid at its address gpa, or makes it SHARED or a LEAF (asid and gpa 0).
+   Answers NONE or CLOSED. */
+skorbilek_answer skorbilek_rmpupdate(uint64_t *table, size_t table_words, uint64_t *memory, size_t memory_words, uint64_t caller,
+                                     uint64_t hpa, uint64_t gpa, uint64_t asid, uint64_t type);
+
+/* PVALIDATE: the guest `caller` accepts the frame at hpa as its page at gpa. Answers OPENED or ALREADY. */
+skorbilek_answer skorbilek_pvalidate(uint64_t *table, size_t table_words, const uint64_t *memory, size_t memory_words,
+                                     uint64_t caller, uint64_t gpa, uint64_t hpa, uint64_t type);
+
+/* PFIX: the host fixes the MERGEABLE page at hpa, with the LEAF at `leaf`, so that others can be merged into it. Answers DONE. */
+skorbilek_answer skorbilek_pfix(uint64_t *table, size_t table_words, uint64_t *memory, size_t memory_words, uint64_t caller,
+                                uint64_t hpa, uint64_t leaf);
+
+/* PMERGE: the host merges the page at hpa2 into the fixed page at hpa1, which has equal contents; hpa2 becomes SHARED. Answers DONE. */
+skorbilek_answer skorbilek_pmerge(uint64_t *table, size_t table_words, uint64_t *memory, size_t memory_words, uint64_t caller,
+                                  uint64_t hpa1, uint64_t hpa2);
+
+/* PUNMERGE: the host moves guest asid out of the fixed page at hpa1 into a copy in the SHARED frame at hpa2. Answers DONE. */
+skorbilek_answer skorbilek_punmerge(uint64_t *table, size_t table_words, uint64_t *memory, size_t memory_words, uint64_t caller,
+                                    uint64_t hpa1, uint64_t hpa2, uint64_t asid);
+
+/* PUNFIX: the host gives the fixed page at hpa back to its owner, the last guest in it; its leaf becomes SHARED. Answers DONE. */
+skorbilek_answer skorbilek_punfix(uint64_t *table, size_t table_words, uint64_t *memory, size_t memory_words, uint64_t caller,
+                                  uint64_t hpa);
+
+/* READ: `caller` reads word `index` (0 to 511) of its page at gpa, in the frame at hpa. gtype and ntype are the types that guest and
+   host give the page. Answers WORD. */
+skorbilek_answer skorbilek_read(const uint64_t *table, size_t table_words, const uint64_t *memory, size_t memory_words,
+                                uint64_t caller, uint64_t gpa, uint64_t hpa, uint64_t gtype, uint64_t ntype, uint64_t index);
+
+/* WRITE: `caller` writes `value` to word `index` of its page at gpa, in the frame at hpa. Answers DONE. */
+skorbilek_answer skorbilek_write(const uint64_t *table, size_t table_words, uint64_t *memory, size_t memory_words, uint64_t caller,
+                                 uint64_t gpa, uint64_t hpa, uint64_t gtype, uint64_t ntype, uint64_t index, uint64_t value);
+
+/* CENSUS: how many places guest asid has, over all its addresses. Anyone may call it. Answers COUNT. */
+skorbilek_answer skorbilek_census(const uint64_t *table, size_t table_words, const uint64_t *memory, size_t memory_words,
+                                  uint64_t asid);
+
+#ifdef __cplusplus
+}
+#endif
+
+#endif
