@@ -1,2 +1,3 @@
--- The code's holdings and tallies in the words of the rules.
+-- The code's holdings and tallies in the words of the rules, and the parts of an access.
 pub mod Census
+pub mod Reached

@@ -1,9 +1,16 @@
 // The checks of READ and WRITE, which are the same but for a fixed page.
 ghost use mathlib.Core.Path.{_≡_};
-ghost use Rattle.rules.specs.Access.{fixedAccess, coveredAccess, access};
-ghost use Rattle.rules.specs.Answers.{Verdict};
-ghost use Rattle.rules.specs.State.{state};
+ghost use mathlib.Core.List.{List};
+ghost use Prim.Native.Nat.{ℕ};
+ghost use lib.Dec.{eqb, ltb};
+ghost use Rattle.entries.specs.Entry.{frameOf};
+ghost use Rattle.rules.specs.Access.{fixedAccess};
+ghost use Rattle.rules.specs.Answers.{Verdict, unless, begins};
+ghost use Rattle.rules.specs.Arguments.{accessArguments, mayAccess};
+ghost use Rattle.rules.specs.Refusals.{TYPE};
+ghost use Rattle.rules.specs.State.{state, M};
 ghost use Rattle.checks.specs.Gate.{past};
+ghost use Rattle.access.specs.Reached.{reached, coveredReached, frameReached, pageAccess};
 use checks::answer::Refusal;
 use checks::begin;
 use checks::gate::Gate;
@@ -39,42 +46,17 @@ fn fixed(table: &[u64], memory: &[u64], writes: bool, caller: u64, gpa: u64, pag
     }
 }
 
-// Of a frame that the table covers.
-fn covered(
-    table: &[u64],
-    memory: &[u64],
-    writes: bool,
-    caller: u64,
-    gpa: u64,
-    hpa: u64,
-    gtype: u64,
-) -> Gate
-    ensures { λ g. ⌜ ((v : Verdict) → past g v
-        ≡ coveredAccess (state (now (table .entry)) (now (memory .entry))) writes caller gpa hpa gtype v) ⌝ }
-{
-    let Decoded::Good(page) = table::read(table, frame_of(hpa)) else {
-        return Gate::Shut(Refusal::BadEntry);
-    };
-    let met = gates::access_type(writes, page.kind, gtype);
-    if let Gate::Shut(refusal) = met {
-        return Gate::Shut(refusal);
-    }
-    let shared = gtype == SHARED;
-    if shared {
-        return Gate::Open;
-    }
-    let is_fixed = page.fixed;
-    if is_fixed {
-        return fixed(table, memory, writes, caller, gpa, page);
-    }
-    gates::unfixed_access(writes, page, caller, gpa)
+// The frame that an access reaches: a SHARED one, which needs no more checks, a page of a guest, or a refusal.
+pub enum Reached {
+    Shared,
+    Page(Entry),
+    Refused(Refusal),
 }
 
-// Of any frame of memory.
-pub fn access(
+// The checks that READ and WRITE begin with, and 6 of the two types that the call names.
+pub fn begun(
     table: &[u64],
     memory: &[u64],
-    writes: bool,
     caller: u64,
     gpa: u64,
     hpa: u64,
@@ -83,19 +65,72 @@ pub fn access(
     index: u64,
 ) -> Gate
     ensures { λ g. ⌜ ((v : Verdict) → past g v
-        ≡ access (state (now (table .entry)) (now (memory .entry))) writes caller gpa hpa gtype ntype index v) ⌝ }
+        ≡ begins (state (now (table .entry)) (now (memory .entry)))
+        (accessArguments caller gpa hpa gtype ntype index) (mayAccess caller gtype ntype)
+        (ltb (frameOf hpa) (M (state (now (table .entry)) (now (memory .entry)))))
+        (unless (eqb gtype ntype) TYPE v)) ⌝ }
 {
     let begun = begin::access(table, memory, caller, gpa, hpa, gtype, ntype, index);
     if let Gate::Shut(refusal) = begun {
         return Gate::Shut(refusal);
     }
-    let alike = go_on(gtype == ntype, Refusal::PageType, Gate::Open);
-    if let Gate::Shut(refusal) = alike {
-        return Gate::Shut(refusal);
-    }
+    go_on(gtype == ntype, Refusal::PageType, Gate::Open)
+}
+
+// Of a frame that the table covers: 5, 6. Of any other: 6 unless SHARED.
+pub fn reach(table: &[u64], writes: bool, hpa: u64, gtype: u64) -> Reached
+    ensures { λ r. ⌜ ((memory : List ℕ) (v : Verdict) (page : Entry → Verdict) → reached r v page
+        ≡ frameReached (state (now (table .entry)) memory) hpa gtype v page) ⌝ }
+{
     let inside = begin::covers(table, hpa);
     if inside {
-        return covered(table, memory, writes, caller, gpa, hpa, gtype);
+        return reach_covered(table, writes, hpa, gtype);
     }
-    go_on(gtype == SHARED, Refusal::PageType, Gate::Open)
+    let shared = gtype == SHARED;
+    if shared {
+        return Reached::Shared;
+    }
+    Reached::Refused(Refusal::PageType)
+}
+
+fn reach_covered(table: &[u64], writes: bool, hpa: u64, gtype: u64) -> Reached
+    ensures { λ r. ⌜ ((memory : List ℕ) (v : Verdict) (page : Entry → Verdict) → reached r v page
+        ≡ coveredReached (state (now (table .entry)) memory) hpa gtype v page) ⌝ }
+{
+    let Decoded::Good(page) = table::read(table, frame_of(hpa)) else {
+        return Reached::Refused(Refusal::BadEntry);
+    };
+    let met = gates::access_type(writes, page.kind, gtype);
+    if let Gate::Shut(refusal) = met {
+        return Reached::Refused(refusal);
+    }
+    let shared = gtype == SHARED;
+    if shared {
+        return Reached::Shared;
+    }
+    Reached::Page(page)
+}
+
+// What is left to check of the frame that was reached.
+pub fn allowed(
+    table: &[u64],
+    memory: &[u64],
+    writes: bool,
+    caller: u64,
+    gpa: u64,
+    frame: Reached,
+) -> Gate
+    ensures { λ g. ⌜ ((v : Verdict) → past g v
+        ≡ reached frame v λ page. pageAccess (state (now (table .entry)) (now (memory .entry))) writes caller gpa page v) ⌝ }
+{
+    let page = match frame {
+        Reached::Shared => return Gate::Open,
+        Reached::Refused(refusal) => return Gate::Shut(refusal),
+        Reached::Page(page) => page,
+    };
+    let is_fixed = page.fixed;
+    if is_fixed {
+        return fixed(table, memory, writes, caller, gpa, page);
+    }
+    gates::unfixed_access(writes, page, caller, gpa)
 }

@@ -23,18 +23,13 @@ pub fn read(
     ensures { λ r. ⌜ gave r (now (table .entry)) (now (memory .entry))
         ≡ read (state (now (table .entry)) (now (memory .entry))) caller gpa hpa gtype ntype index ⌝ }
 {
-    let checked = check::access(
-        table,
-        memory,
-        check::READING,
-        caller,
-        gpa,
-        hpa,
-        gtype,
-        ntype,
-        index,
-    );
-    if let Gate::Shut(refusal) = checked {
+    let begun = check::begun(table, memory, caller, gpa, hpa, gtype, ntype, index);
+    if let Gate::Shut(refusal) = begun {
+        return Answer::Refused(refusal);
+    }
+    let reached = check::reach(table, check::READING, hpa, gtype);
+    let allowed = check::allowed(table, memory, check::READING, caller, gpa, reached);
+    if let Gate::Shut(refusal) = allowed {
         return Answer::Refused(refusal);
     }
     let word = frame::word(memory, frame_of(hpa), index as usize);
@@ -56,18 +51,13 @@ pub fn write(
     ensures { λ r. ⌜ gave r (now (table .entry)) (now (memory .exit))
         ≡ write (state (now (table .entry)) (now (memory .entry))) caller gpa hpa gtype ntype index value ⌝ }
 {
-    let checked = check::access(
-        table,
-        memory,
-        check::WRITING,
-        caller,
-        gpa,
-        hpa,
-        gtype,
-        ntype,
-        index,
-    );
-    if let Gate::Shut(refusal) = checked {
+    let begun = check::begun(table, memory, caller, gpa, hpa, gtype, ntype, index);
+    if let Gate::Shut(refusal) = begun {
+        return Answer::Refused(refusal);
+    }
+    let reached = check::reach(table, check::WRITING, hpa, gtype);
+    let allowed = check::allowed(table, memory, check::WRITING, caller, gpa, reached);
+    if let Gate::Shut(refusal) = allowed {
         return Answer::Refused(refusal);
     }
     frame::put_word(memory, frame_of(hpa), index as usize, value);

@@ -1,34 +1,38 @@
--- `access::transfer::write` meets its contract: a shut gate is the rule's refusal, and past an open one the rule is what is done.
+-- `access::transfer::write` meets its contract: a shut gate is the rule's refusal, and past the open ones the rule is what is done.
 -- Assumes nothing.
 use borrow.Author.Needs.{needs}
 use Rattle.rules.specs.Access.{write}
 use Rattle.rules.specs.Answers.{settle}
 use Rattle.rules.specs.State.{withWord}
 use Rattle.checks.specs.Gate.{past}
+use Rattle.access.proofs.AccessLaws.{access-parts, access-checked}
 use Rattle.access.proofs.transfer.write.Statement.{statement}
 use Rattle.access.proofs.transfer.write.Tie as tie
 
-access-requires : tie.Need-access-requires
-access-requires c κs = search needs
+begun-requires : tie.Need-begun-requires
+begun-requires c κs = search needs
 
-enum-known-checked : tie.Need-enum-known-checked
-enum-known-checked c = search needs
+enum-known-begun : tie.Need-enum-known-begun
+enum-known-begun c = search needs
 
 same-length : tie.Need-same-length
 same-length c = search needs
 
 returns : tie.Need-returns
 unfolding write settle past withWord
-returns c = rw (← c .before .before .before .access .ensures, c .before .checked .given .1)
+returns c = rw (access-parts, ← c .before .before .before .begun .ensures, c .before .begun2 .given .1)
 
 enum-told : tie.Need-enum-told
 enum-told c = search needs
 
-frame-of-requires : tie.Need-frame-of-requires
-frame-of-requires c κs = search needs
+reach-requires : tie.Need-reach-requires
+reach-requires c κs = search needs
 
-put-word-requires : tie.Need-put-word-requires
-put-word-requires c κs = search needs
+allowed-requires : tie.Need-allowed-requires
+allowed-requires c κs = search needs
+
+enum-known-allowed : tie.Need-enum-known-allowed
+enum-known-allowed c = search needs
 
 same-length-2 : tie.Need-same-length-2
 same-length-2 c = search needs
@@ -36,11 +40,38 @@ same-length-2 c = search needs
 returns-2 : tie.Need-returns-2
 unfolding write settle past withWord
 returns-2 c =
-    let at-put-word = c .before .before in let at-frame-of = at-put-word .before in let at-enum-told = at-frame-of .before .before in
-    let at-access = at-enum-told .before .before in
+    let at-allowed = c .before .before .before in let at-reach = at-allowed .before .before in let at-told = at-reach .before in
+    let at-begun = at-told .before .before in
     rw (
-      ← at-access .access .ensures,
-      at-enum-told .enum-told .given .1,
+      access-checked _ _ _ _ _ _ _ _ _ (at-begun .begun .result) (at-allowed .allowed .result) (at-reach .reach .result)
+          (at-begun .begun .ensures) (at-reach .reach .ensures) (at-allowed .allowed .ensures),
+      at-told .enum-told .given .1,
+      c .before .allowed2 .given .1,
+    )
+
+enum-told-2 : tie.Need-enum-told-2
+enum-told-2 c = search needs
+
+frame-of-requires : tie.Need-frame-of-requires
+frame-of-requires c κs = search needs
+
+put-word-requires : tie.Need-put-word-requires
+put-word-requires c κs = search needs
+
+same-length-3 : tie.Need-same-length-3
+same-length-3 c = search needs
+
+returns-3 : tie.Need-returns-3
+unfolding write settle past withWord
+returns-3 c =
+    let at-put-word = c .before .before in let at-frame-of = at-put-word .before in let at-open = at-frame-of .before .before in
+    let at-allowed = at-open .before .before in let at-reach = at-allowed .before .before in let at-told = at-reach .before in
+    let at-begun = at-told .before .before in
+    rw (
+      access-checked _ _ _ _ _ _ _ _ _ (at-begun .begun .result) (at-allowed .allowed .result) (at-reach .reach .result)
+          (at-begun .begun .ensures) (at-reach .reach .ensures) (at-allowed .allowed .ensures),
+      at-told .enum-told .given .1,
+      at-open .enum-told2 .given .1,
       ← at-frame-of .frame-of .ensures,
       ← at-put-word .put-word .ensures,
     )
@@ -49,12 +80,18 @@ pub write-spec : {M : Type 1} → statement M
 write-spec =
     tie.close
     (tie.spec
-    access-requires
-    enum-known-checked
+    begun-requires
+    enum-known-begun
     same-length
     returns
     enum-told
+    reach-requires
+    allowed-requires
+    enum-known-allowed
+    same-length-2
+    returns-2
+    enum-told-2
     frame-of-requires
     put-word-requires
-    same-length-2
-    returns-2)
+    same-length-3
+    returns-3)
