@@ -1,8 +1,13 @@
--- The answers of the rules as C gets them: "the refusal's number or 0, the answer's kind, its values", in a struct of five numbers. What
--- an answer does not have is 0.
+-- The answers of the rules as C gets them, a struct of five numbers: the refusal's number or 0, the answer's kind, its values. What an
+-- answer does not have is 0.
+use mathlib.Core.Path.{_≡_}
 use mathlib.Core.List.{List}
 use Prim.Native.Nat.{ℕ}
+use lib.Dec.{eqb}
+use Rattle.words.specs.Choice.{pick}
 use Rattle.rules.specs.Answers.{Told, refused, done, none, closed, opened, already, word, count, Outcome}
+use Rattle.rules.specs.Calls.{Call, step}
+use Rattle.rules.specs.Run.{Turn, Promised}
 use Rattle.rules.specs.State.{State, state}
 use Rattle.ffi.specs.declared.answer.Flat.{Flat}
 
@@ -55,3 +60,27 @@ returned answer table memory = record { answer = answer; after = state table mem
 
 unfoldable pub flattened : Outcome → Returned
 flattened o = record { answer = flat (o .told); after = o .after }
+
+-- what a returned answer says, by its kind; and that this is the answer that was flattened
+unfoldable pub says : Flat → Told
+says r =
+    pick (eqb (r .kind) REFUSED) (refused (r .refusal))
+    (pick (eqb (r .kind) DONE) done
+    (pick (eqb (r .kind) NONE) none
+    (pick (eqb (r .kind) CLOSED) (closed (r .asid) (r .gpa))
+    (pick (eqb (r .kind) OPENED) opened
+    (pick (eqb (r .kind) ALREADY) already
+    (pick (eqb (r .kind) WORD) (word (r .value))
+    (count (r .value))))))))
+
+abbrev pub FlatSays : Type 0
+FlatSays = (told : Told) → says (flat told) ≡ told
+
+-- So what an exported function returns is a turn of a run, and what is said of runs, demand 3 among it, is said of runs of the library.
+abbrev pub turn : Call → Flat → List ℕ → List ℕ → Turn
+turn call r table memory = record { call = call; told = says r; left = state table memory }
+
+abbrev pub LibraryRuns : Type 0
+LibraryRuns =
+    (s : State) (call : Call) (r : Flat) (table memory : List ℕ)
+    → returned r table memory ≡ flattened (step s call) → Promised s (turn call r table memory)

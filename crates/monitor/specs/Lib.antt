@@ -1,3 +1,2 @@
--- The code's calls as the rules', and what holds of every run of `step`.
+-- The code's calls as the rules'.
 pub mod Call
-pub mod Run

@@ -19,6 +19,7 @@ pub mod Passed
 pub mod PlaceChanges
 pub mod PlaceLaws
 pub mod Reason
+pub mod Run
 pub mod Sound
 pub mod SoundSteps
 pub mod StateLaws
