@@ -62,7 +62,7 @@ zero-address = refl
 pub false-not-true : {A : Type 0} {b : Bool} → b ≡ false → b ≡ true → A
 false-not-true p q = absurd (false≢true (sym p ∙ q))
 
-not-unowned : (kind : ℕ) → isOwned kind ≡ true → isUnowned kind ≡ false
+pub not-unowned : (kind : ℕ) → isOwned kind ≡ true → isUnowned kind ≡ false
 unfolding isUnowned _or_
 not-unowned kind o = ⊎-elim (λ k. rw k) (λ k. rw k) (owned-kinds kind o)
 

@@ -1,7 +1,7 @@
 // An entry of the RMP and its two words.
 ghost use mathlib.Core.Path.{_≡_};
 ghost use Rattle.entries.specs.Entry.{isAddress, frameOf, isParty, isGuest, isOwned, isUnowned};
-ghost use Rattle.entries.specs.Entry.{asidFits, flagsFit, addressFits, wellFormed, fields, decoded};
+ghost use Rattle.entries.specs.Entry.{wellFormed, fields, decoded};
 ghost use Rattle.entries.specs.Entry.{zeroEntry, bit, encoded, toValidated, toFixed, toUnfixed, toMoved};
 
 // The types of a page.
@@ -96,36 +96,27 @@ impl Entry {
         }
     }
 
-    // Whether the ASID is one that the type allows.
-    fn asid_fits(self) -> bool
-        ensures { λ r. ⌜ r ≡ asidFits self ⌝ }
-    {
-        (is_unowned(self.kind) & (self.asid == 0)) | (is_owned(self.kind) & is_guest(self.asid))
-    }
-
-    // Whether the flags are ones that the type allows.
-    fn flags_fit(self) -> bool
-        ensures { λ r. ⌜ r ≡ flagsFit self ⌝ }
-    {
-        (is_unowned(self.kind) & !self.validated & !self.fixed)
-            | (is_owned(self.kind) & (!self.fixed | ((self.kind == MERGEABLE) & self.validated)))
-    }
-
-    // Whether the address is one that type and flags allow, in a table of so many frames.
-    fn address_fits(self, frames: usize) -> bool
-        ensures { λ r. ⌜ r ≡ addressFits frames self ⌝ }
-    {
-        (is_unowned(self.kind) & (self.address == 0))
-            | (is_owned(self.kind)
-                & is_address(self.address)
-                & (!self.fixed | (frame_of(self.address) < frames)))
-    }
-
-    // Whether a table of so many frames may hold this entry.
+    // Whether a table of so many frames may hold this entry. The type is looked at once, and then what it asks for: every entry that a
+    // call reads passes through here.
     pub fn well_formed(self, frames: usize) -> bool
         ensures { λ r. ⌜ r ≡ wellFormed frames self ⌝ }
     {
-        self.asid_fits() & self.flags_fit() & self.address_fits(frames)
+        let owned = is_owned(self.kind);
+        if owned {
+            let placed = is_guest(self.asid) & is_address(self.address);
+            let fixed = self.fixed;
+            if fixed {
+                return placed
+                    & (self.kind == MERGEABLE)
+                    & self.validated
+                    & (frame_of(self.address) < frames);
+            }
+            return placed;
+        }
+        is_unowned(self.kind)
+            & (self.asid == 0)
+            & (!self.validated & !self.fixed)
+            & (self.address == 0)
     }
 
     // Its two words.
