@@ -1,16 +1,20 @@
--- The two scans, one step at a time: what one frame, or one word, more makes of the answer so far; and that a leaf found in use stays
--- in use, however many frames follow.
+-- The two scans: what one frame more makes of the answer so far, and that a leaf found in use stays in use, however many frames follow;
+-- and that a leaf is still shared where more of its words have bit 0 set than the owner's, because each word adds its bit to the count.
 -- Assumes nothing.
-use mathlib.Core.Path.{_≡_, sym}
+use mathlib.Core.Path.{_≡_, refl, sym}
 use mathlib.Core.Bool.{Bool, true, false, not}
 use mathlib.Core.List.{List}
+use mathlib.Core.Logic.{⊎-elim}
 use Prim.Native.Nat.{ℕ, zero, suc, _+_, _%_, _<_, _≤_}
 use native.Mathlib.Decide.{ℕ-discrete}
 use native.Mathlib.Numerals.{add-one}
 use native.Mathlib.Omega.{arith}
 use lib.Dec.{eqb}
+use borrow.Author.Tests.{eq-eqb, ne-eqb}
 use Rattle.words.specs.Choice.{_and_, _or_}
-use Rattle.words.specs.Frame.{wordIn}
+use Rattle.words.specs.Frame.{wordIn, oddIn}
+use Rattle.words.proofs.ChoiceLaws.{lt-or-le}
+use Rattle.words.proofs.FrameLaws.{word-past}
 use Rattle.entries.specs.Table.{entryIn}
 use Rattle.entries.specs.declared.entry.Decoded.{Decoded}
 use Rattle.rules.specs.Leaves.{namesLeaf, leafInUse, isSharedBy, stillShared}
@@ -39,10 +43,49 @@ module _
   pub still-unused : named ≡ false → leafInUse (state t m) leaf (frame + 1) ≡ false
   still-unused h = cc one-more
 
--- one word more
-pub shared-next :
-    (t m : List ℕ) (frame owner guest value : ℕ) (shared : Bool) → shared ≡ stillShared (state t m) frame owner guest
-    → value ≡ wordIn m frame guest
-    → (shared or (not (eqb guest owner) and eqb (value % 2) 1)) ≡ stillShared (state t m) frame owner (guest + 1)
-unfolding stillShared isSharedBy wordAt
-shared-next t m frame owner guest value shared so-far found = rw (add-one, so-far, found)
+-- what a count of words with bit 0 set is beside the owner's own bit: more where another word has it set, and the same where none has
+Beside : ℕ → ℕ → Bool → Type 0
+Beside own all true = own < all
+Beside own all false = all ≡ own
+
+-- one word more: another guest's, or the owner's own
+another : (own all bit : ℕ) (shared : Bool) → bit < 2 → Beside own all shared → Beside own (all + bit) (shared or eqb bit 1)
+unfolding _or_ Beside
+another own all bit true l h = omega arith
+another own all zero false l h = omega arith
+another own all (suc zero) false l h = omega arith
+another own all (suc (suc bit)) false l h = absurd (omega arith)
+
+owned : (all bit : ℕ) (shared : Bool) → Beside 0 all shared → Beside bit (all + bit) (shared or false)
+unfolding _or_ Beside
+owned all bit true h = omega arith
+owned all bit false h = omega arith
+
+told : (own all : ℕ) (shared : Bool) → Beside own all shared → not (eqb all own) ≡ shared
+unfolding Beside
+told own all true h = rw (ne-eqb all own (λ e. omega arith))
+told own all false h = rw (eq-eqb all own h)
+
+module _ (t m : List ℕ) (frame owner : ℕ) where
+  before-owner : (n : ℕ) → n ≤ owner → Beside 0 (oddIn m frame n) (stillShared (state t m) frame owner n)
+  unfolding stillShared isSharedBy wordAt oddIn _and_ Beside
+  before-owner zero l = refl
+  before-owner (suc n) l =
+      rw (ne-eqb n owner (λ e. omega arith))
+      (another 0 (oddIn m frame n) (wordIn m frame n % 2) _ (omega arith) (before-owner n (omega arith)))
+
+  past-owner :
+      (n : ℕ) → owner < n → Beside (wordIn m frame owner % 2) (oddIn m frame n) (stillShared (state t m) frame owner n)
+  unfolding stillShared isSharedBy wordAt oddIn _and_
+  past-owner zero l = absurd (omega arith)
+  past-owner (suc n) l =
+      elim (ℕ-discrete n owner) [
+        | yes e ↦ rw (eq-eqb n owner e, e) (owned (oddIn m frame owner) (wordIn m frame owner % 2) _ (before-owner owner (omega arith)))
+        | no e ↦
+            rw (ne-eqb n owner e)
+            (another (wordIn m frame owner % 2) (oddIn m frame n) (wordIn m frame n % 2) _ (omega arith) (past-owner n (omega (arith, e))))
+      ]
+
+  pub shared-counted : not (eqb (oddIn m frame 512) (wordIn m frame owner % 2)) ≡ stillShared (state t m) frame owner 512
+  shared-counted =
+      ⊎-elim (λ l. told _ _ _ (past-owner 512 l)) (λ l. rw (word-past m frame owner l) (told 0 _ _ (before-owner 512 l))) (lt-or-le owner 512)

@@ -35,16 +35,10 @@ pub fn leaf_in_use(table: &[u64], leaf: u64) -> bool
     false
 }
 
-// 17: whether a word of this leaf frame, other than the owner's, has bit 0 set.
+// 17: whether a word of this leaf frame, other than the owner's, has bit 0 set: more words have it than the owner's.
 pub fn still_shared(memory: &[u64], frame: usize, owner: u64) -> bool
     ensures { λ r. ⌜ ((table : List ℕ) → r ≡ stillShared (state table (now (memory .entry))) frame owner 512) ⌝ }
 {
-    let mut shared = false;
-    let mut guest = 0;
-    while guest < 512 {
-        let word = frame::word(memory, frame, guest);
-        shared = shared | (!(guest as u64 == owner) & (word % 2 == 1));
-        guest += 1;
-    }
-    shared
+    let own = frame::word(memory, frame, owner as usize) % 2;
+    frame::odd(memory, frame) != own
 }

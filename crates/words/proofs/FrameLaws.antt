@@ -4,12 +4,12 @@
 use mathlib.Core.Path.{_≡_, refl, sym, _∙_}
 use mathlib.Core.List.{List}
 use mathlib.Core.Logic.{_≢_, ⊎-elim}
-use Prim.Native.Nat.{ℕ, _+_, _*_, _≤_, _<_}
+use Prim.Native.Nat.{ℕ, zero, suc, _+_, _*_, _%_, _≤_, _<_}
 use native.Mathlib.Omega.{arith}
 use lib.ListN.{length, getD, set, replicate, length-set, length-replicate, getD-replicate}
 use lib.Seq.{getD-set-same, getD-set-other}
-use Rattle.words.specs.Run.{part, pasted, differing}
-use Rattle.words.specs.Frame.{frameCount, isFramed, wordIn, putWord, zeroFrame, copyFrame, differingIn}
+use Rattle.words.specs.Run.{part, pasted, differing, odd}
+use Rattle.words.specs.Frame.{frameCount, isFramed, wordIn, putWord, zeroFrame, copyFrame, differingIn, oddIn}
 use Rattle.words.proofs.ChoiceLaws.{lt-or-le, bounds-kept, first-not, second-not, bounds-either}
 use Rattle.words.proofs.RunLaws.{length-pasted, pasted-not, pasted-there, pasted-before, pasted-after, length-part, part-at}
 use Rattle.words.proofs.RunLaws.{within-fits, within-not-from, within-not-to, none-differ}
@@ -211,3 +211,15 @@ module _ (m : List ℕ) (f g : ℕ) where
       (λ l. sym (part-at m (512 * f) 512 i l)
       ∙ none-differ (part m (512 * f) 512) (part m (512 * g) 512) 512 (sym (differing-is h k) ∙ e) i l
       ∙ part-at m (512 * g) 512 i l)
+
+-- the odd words of a frame: those of its run, and none in a frame that memory does not have
+module _ (m : List ℕ) (f : ℕ) where
+  pub odd-is : f < frameCount m → (n : ℕ) → n ≤ 512 → odd (part m (512 * f) 512) n ≡ oddIn m f n
+  unfolding odd oddIn
+  odd-is h zero l = refl
+  odd-is h (suc n) l = rw (odd-is h n (omega arith), part-at m (512 * f) 512 n (omega arith), word-is m f n h (omega arith))
+
+  pub odd-outside : frameCount m ≤ f → (n : ℕ) → oddIn m f n ≡ 0
+  unfolding oddIn
+  odd-outside h zero = refl
+  odd-outside h (suc n) = rw (odd-outside h n, word-outside m f n h)

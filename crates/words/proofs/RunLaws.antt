@@ -5,7 +5,7 @@ use mathlib.Core.Path.{_≡_, refl, sym, ap, _∙_}
 use mathlib.Core.Bool.{Bool, true, false}
 use mathlib.Core.List.{List, [], _++_, append-nil}
 use mathlib.Core.Logic.{_⊎_, inl, inr, ⊎-elim}
-use Prim.Native.Nat.{ℕ, zero, suc, _+_, _-_, _≤_, _<_}
+use Prim.Native.Nat.{ℕ, zero, suc, _+_, _-_, _%_, _≤_, _<_}
 use native.Mathlib.Numerals.{add-one}
 use native.Mathlib.Omega.{arith}
 use lib.Dec.{eqb}
@@ -14,7 +14,7 @@ use lib.Seq.{getD-append-add, getD-take, getD-drop, length-take-le, take-length}
 use borrow.Rule.Slice.PartMut.{putMid, post-is}
 use borrow.Author.Tests.{le-leb, lt-leb, eqb-true, eq-eqb, ne-eqb}
 use Rattle.words.specs.Choice.{pick}
-use Rattle.words.specs.Run.{part, pasted, copied, copiedWithin, differing}
+use Rattle.words.specs.Run.{part, pasted, copied, copiedWithin, differing, odd}
 use Rattle.words.proofs.ChoiceLaws.{lt-or-le, pick-true, pick-false}
 
 -- a run that fits, and one that does not
@@ -141,3 +141,12 @@ none-differ a b (suc n) e k h = go (eqb (getD a n 0) (getD b n 0)) refl e (none-
     go t q z rest (inl l) = rest (omega arith) k l
     go true q z rest (inr l) = let i : k ≡ n = omega arith in rw i (eqb-true _ _ q)
     go false q z rest (inr l) = omega arith
+
+-- none of no words is odd, and the next word adds its bit 0
+pub odd-none : (words : List ℕ) → odd words 0 ≡ 0
+unfolding odd
+odd-none words = refl
+
+pub odd-next : (words : List ℕ) (n : ℕ) → odd words (n + 1) ≡ odd words n + getD words n 0 % 2
+unfolding odd
+odd-next words n = rw (add-one n)

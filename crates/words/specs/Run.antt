@@ -1,7 +1,7 @@
 -- 01, "How tight the promises are": "zeroing, copying and comparing frames .. for a run of any length". What copying and comparing runs of
--- words gives; a run that is zeroed is `replicate n 0`.
+-- words gives, and how many words of a run are odd; a run that is zeroed is `replicate n 0`.
 use mathlib.Core.List.{List, _++_}
-use Prim.Native.Nat.{ℕ, zero, suc, _+_}
+use Prim.Native.Nat.{ℕ, zero, suc, _+_, _%_}
 use lib.Dec.{leb, eqb}
 use lib.ListN.{length, getD, take, drop}
 use Rattle.words.specs.Choice.{pick}
@@ -26,3 +26,8 @@ copiedWithin words from to count = pick (leb (from + count) (length words)) (pas
 unfoldable pub differing : List ℕ → List ℕ → ℕ → ℕ
 differing a b zero = 0
 differing a b (suc n) = differing a b n + pick (eqb (getD a n 0) (getD b n 0)) 0 1
+
+-- how many of the first n words of a run are odd; past its end a run counts as zero
+unfoldable pub odd : List ℕ → ℕ → ℕ
+odd words zero = 0
+odd words (suc n) = odd words n + getD words n 0 % 2

@@ -2,7 +2,7 @@
 ghost use mathlib.Core.Path.{_≡_};
 ghost use Prim.Native.Nat.{min, _+_, _<_, _≤_};
 ghost use lib.ListN.{length, replicate};
-ghost use Rattle.words.specs.Run.{part, pasted, copied, copiedWithin, differing};
+ghost use Rattle.words.specs.Run.{part, pasted, copied, copiedWithin, differing, odd};
 
 // Every word becomes zero.
 pub fn zero(run: &mut [u64])
@@ -103,4 +103,17 @@ pub fn differing(a: &[u64], b: &[u64]) -> u64
         i += 1;
     }
     n as u64 - same
+}
+
+// How many words are odd: a sum of their bits 0, with no branch.
+pub fn odd(run: &[u64]) -> u64
+    ensures { λ r. ⌜ r ≡ odd (now (run .entry)) (length (now (run .entry))) ⌝ }
+{
+    let mut count: u64 = 0;
+    let mut i = 0;
+    while i < run.len() {
+        count += run[i] % 2;
+        i += 1;
+    }
+    count
 }
