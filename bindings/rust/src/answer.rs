@@ -150,6 +150,7 @@ impl Flat {
     /// # Panics
     ///
     /// On a kind or a number that the header does not have: the library is then not the one that this crate was written for.
+    #[inline]
     pub(crate) fn answer(self) -> Result<Answer, Refusal> {
         match self.kind {
             0 if (1..=17).contains(&self.refusal) => Err(Refusal::ALL[self.refusal as usize - 1]),
@@ -163,11 +164,16 @@ impl Flat {
             5 => Ok(Answer::Already),
             6 => Ok(Answer::Word(self.value)),
             7 => Ok(Answer::Count(self.value)),
-            kind => panic!(
-                "libskorbilek.a answers kind {kind}, refusal {}, which this crate does not know",
-                self.refusal
-            ),
+            _ => self.unknown(),
         }
+    }
+
+    #[cold]
+    fn unknown(self) -> ! {
+        panic!(
+            "libskorbilek.a answers kind {}, refusal {}, which this crate does not know",
+            self.kind, self.refusal
+        )
     }
 }
 

@@ -46,6 +46,7 @@ extern "C" {
 /// assert_eq!(rmpupdate(&mut table, &mut memory, 7, 0x1000, 0, 0, SHARED), Err(Refusal::Caller));
 /// # Ok::<(), Refusal>(())
 /// ```
+#[inline]
 #[allow(clippy::too_many_arguments)]
 pub fn rmpupdate(
     table: &mut [u64],
@@ -74,6 +75,7 @@ pub fn rmpupdate(
 /// assert_eq!(pvalidate(&mut table, &memory, 7, 0x50000, 0x1000, PRIVATE)?, Answer::Already);
 /// # Ok::<(), Refusal>(())
 /// ```
+#[inline]
 pub fn pvalidate(
     table: &mut [u64],
     memory: &[u64],
@@ -89,6 +91,7 @@ pub fn pvalidate(
 
 /// PFIX: the host fixes the MERGEABLE page at `hpa`, with the LEAF at `leaf`, so that others can be merged into it. Answers
 /// [`Answer::Done`]. [`pmerge`] has an example.
+#[inline]
 pub fn pfix(
     table: &mut [u64],
     memory: &mut [u64],
@@ -125,6 +128,7 @@ pub fn pfix(
 /// assert_eq!(written, Err(Refusal::Fixed));
 /// # Ok::<(), Refusal>(())
 /// ```
+#[inline]
 pub fn pmerge(
     table: &mut [u64],
     memory: &mut [u64],
@@ -153,6 +157,7 @@ pub fn pmerge(
 /// write(&table, &mut memory, 7, 0x50000, 0x4000, MERGEABLE, MERGEABLE, 3, 1)?;
 /// # Ok::<(), Refusal>(())
 /// ```
+#[inline]
 pub fn punmerge(
     table: &mut [u64],
     memory: &mut [u64],
@@ -181,6 +186,7 @@ pub fn punmerge(
 /// assert_eq!(punfix(&mut table, &mut memory, HOST, 0x1000), Err(Refusal::NotFixed));
 /// # Ok::<(), Refusal>(())
 /// ```
+#[inline]
 pub fn punfix(
     table: &mut [u64],
     memory: &mut [u64],
@@ -204,6 +210,7 @@ pub fn punfix(
 /// assert_eq!(read(&table, &memory, HOST, 0, 0x2000, PRIVATE, PRIVATE, 3), Err(Refusal::Caller));
 /// # Ok::<(), Refusal>(())
 /// ```
+#[inline]
 #[allow(clippy::too_many_arguments)]
 pub fn read(
     table: &[u64],
@@ -230,6 +237,7 @@ pub fn read(
 /// assert_eq!(write(&table, &mut memory, HOST, 0, 0x2000, SHARED, SHARED, 512, 42), Err(Refusal::Argument));
 /// # Ok::<(), Refusal>(())
 /// ```
+#[inline]
 #[allow(clippy::too_many_arguments)]
 pub fn write(
     table: &[u64],
@@ -256,6 +264,7 @@ pub fn write(
 /// assert_eq!(census(&table[1..], &memory, 7), Err(Refusal::Geometry));
 /// # Ok::<(), Refusal>(())
 /// ```
+#[inline]
 pub fn census(table: &[u64], memory: &[u64], asid: u64) -> Result<Answer, Refusal> {
     let (t, n) = (table.as_ptr(), table.len());
     let (m, w) = (memory.as_ptr(), memory.len());
