@@ -1,8 +1,8 @@
 -- The table as a map from frames to entries: an entry that was put is read back, every other frame's entry stays, and so do the
--- table's sizes; what is read is well formed; an empty table reads as zero entries. With the four definitions of `specs/Table` these are
+-- table's sizes; what is read is well formed; an empty table reads as zero entries. With the five definitions of `specs/Table` these are
 -- all that knows an entry's words in the table, but for worked examples.
 -- Assumes nothing.
-use mathlib.Core.Path.{_≡_, refl}
+use mathlib.Core.Path.{_≡_, refl, ap, _∙_}
 use mathlib.Core.Bool.{true}
 use mathlib.Core.List.{List}
 use mathlib.Core.Logic.{_≢_, ⊎-elim}
@@ -15,7 +15,7 @@ use Rattle.words.specs.Choice.{pick, _and_, _or_}
 use Rattle.words.proofs.ChoiceLaws.{lt-or-le, pick-true, pick-false}
 use Rattle.entries.specs.Entry.{isOwned, isUnowned, zeroEntry, entry, asidFits, flagsFit, addressFits, wellFormed}
 use Rattle.entries.specs.Entry.{fields, decoded, encoded}
-use Rattle.entries.specs.Table.{covered, isWhole, entryIn, putEntry}
+use Rattle.entries.specs.Table.{covered, isWhole, entryIn, addressIn, putEntry}
 use Rattle.entries.specs.declared.entry.Entry.{Entry}
 use Rattle.entries.specs.declared.entry.Decoded.the-variants.{Good}
 use Rattle.entries.proofs.EntryLaws.{chosen, decode-encode, decode-good, encode-decode}
@@ -79,6 +79,13 @@ module _ (t : List ℕ) (f : ℕ) (e : Entry) where
 pub entry-good : (t : List ℕ) (f : ℕ) (e : Entry) → entryIn t f ≡ Good e → (f < covered t) × (wellFormed (covered t) e ≡ true)
 unfolding entryIn
 entry-good t f e g = let q = chosen _ g in (ltb-true _ _ (q .0), decode-good _ _ _ e (q .1) .2)
+
+-- a good entry's address is the one that stands there
+pub entry-address : (t : List ℕ) (f : ℕ) (e : Entry) → entryIn t f ≡ Good e → addressIn t f ≡ e .address
+unfolding entryIn addressIn fields entry
+entry-address t f e g =
+    let q = chosen _ g in
+    pick-true _ _ (q .0) ∙ ap (λ (x : Entry). x .address) (decode-good _ _ _ e (q .1) .1)
 
 -- the entry that stands there, put again, changes no word
 pub put-same : (t : List ℕ) (f : ℕ) (e : Entry) → entryIn t f ≡ Good e → putEntry t f e ≡ t

@@ -1,7 +1,7 @@
 // The table as a lent run of words: how many frames it covers, and a frame's entry in it. No other file knows where an entry's words
 // lie.
 ghost use mathlib.Core.Path.{_≡_};
-ghost use Rattle.entries.specs.Table.{covered, isWhole, entryIn, putEntry};
+ghost use Rattle.entries.specs.Table.{covered, isWhole, entryIn, addressIn, putEntry};
 use crate::entry;
 use crate::entry::Decoded;
 use crate::entry::Entry;
@@ -31,6 +31,17 @@ pub fn read(table: &[u64], frame: usize) -> Decoded
         return entry::decode(n, word0, word1);
     }
     Decoded::Bad
+}
+
+// The address that stands in a frame's entry, whatever else does: to pass over an entry without decoding it. A frame that the table does
+// not cover has 0.
+pub fn address(table: &[u64], frame: usize) -> u64
+    ensures { λ r. ⌜ r ≡ addressIn (now (table .entry)) frame ⌝ }
+{
+    if frame < table.len() / 2 {
+        return table[2 * frame + 1];
+    }
+    0
 }
 
 // A frame's entry becomes this one. A frame that the table does not cover has none, and nothing changes.

@@ -1,5 +1,6 @@
--- The two scans: what one frame more makes of the answer so far, and that a leaf found in use stays in use, however many frames follow;
--- and that a leaf is still shared where more of its words have bit 0 set than the owner's, because each word adds its bit to the count.
+-- The two scans: what one frame more makes of the answer so far, that a leaf found in use stays in use, however many frames follow, and
+-- which entries need not be decoded; and that a leaf is still shared where more of its words have bit 0 set than the owner's, because each
+-- word adds its bit to the count.
 -- Assumes nothing.
 use mathlib.Core.Path.{_≡_, refl, sym}
 use mathlib.Core.Bool.{Bool, true, false, not}
@@ -13,10 +14,12 @@ use lib.Dec.{eqb}
 use borrow.Author.Tests.{eq-eqb, ne-eqb}
 use Rattle.words.specs.Choice.{_and_, _or_}
 use Rattle.words.specs.Frame.{wordIn, oddIn}
-use Rattle.words.proofs.ChoiceLaws.{lt-or-le}
+use Rattle.words.proofs.ChoiceLaws.{lt-or-le, and-not}
 use Rattle.words.proofs.FrameLaws.{word-past}
-use Rattle.entries.specs.Table.{entryIn}
+use Rattle.entries.specs.Table.{entryIn, addressIn}
 use Rattle.entries.specs.declared.entry.Decoded.{Decoded}
+use Rattle.entries.specs.declared.entry.Decoded.the-variants.{Good, Bad}
+use Rattle.entries.proofs.TableLaws.{entry-address}
 use Rattle.rules.specs.Leaves.{namesLeaf, leafInUse, isSharedBy, stillShared}
 use Rattle.rules.specs.State.{State, state, entryAt, wordAt}
 
@@ -29,13 +32,24 @@ used-stays s leaf frame (suc n) h below =
       | no e ↦ rw (used-stays s leaf frame n h (omega (arith, e)))
     ]
 
+-- an entry in which another address stands does not name the leaf
+by-entry :
+    (t : List ℕ) (frame leaf : ℕ) → eqb (addressIn t frame) leaf ≡ false → (here : Decoded) → entryIn t frame ≡ here
+    → namesLeaf here leaf ≡ false
+unfolding namesLeaf
+by-entry t frame leaf other (Good e) found = and-not _ _ (rw (← entry-address t frame e found) other)
+by-entry t frame leaf other Bad found = refl
+
+pub not-named : (t : List ℕ) (frame leaf : ℕ) → eqb (addressIn t frame) leaf ≡ false → namesLeaf (entryIn t frame) leaf ≡ false
+not-named t frame leaf other = by-entry t frame leaf other (entryIn t frame) refl
+
 -- one frame more
 module _
-    (t m : List ℕ) (leaf frame : ℕ) (here : Decoded) (named : Bool) (so-far : leafInUse (state t m) leaf frame ≡ false)
-    (found : here ≡ entryIn t frame) (told : named ≡ namesLeaf here leaf) where
+    (t m : List ℕ) (leaf frame : ℕ) (named : Bool) (so-far : leafInUse (state t m) leaf frame ≡ false)
+    (told : named ≡ namesLeaf (entryIn t frame) leaf) where
   one-more : leafInUse (state t m) leaf (frame + 1) ≡ named
   unfolding leafInUse entryAt _or_
-  one-more = rw (add-one, so-far, told, found)
+  one-more = rw (add-one, so-far, told)
 
   pub in-use : (n : ℕ) → named ≡ true → frame < n → true ≡ leafInUse (state t m) leaf n
   in-use n h below = sym (used-stays (state t m) leaf (frame + 1) n (cc one-more) (omega arith))

@@ -2,7 +2,7 @@
 ghost use mathlib.Core.Path.{_≡_};
 ghost use mathlib.Core.List.{List};
 ghost use Prim.Native.Nat.{ℕ};
-ghost use Rattle.entries.specs.Table.{covered};
+ghost use Rattle.entries.specs.Table.{covered, entryIn};
 ghost use Rattle.rules.specs.Leaves.{namesLeaf, leafInUse, stillShared};
 ghost use Rattle.rules.specs.State.{state};
 use entries::entry::Decoded;
@@ -18,6 +18,17 @@ fn names_leaf(decoded: Decoded, leaf: u64) -> bool
     e.fixed & (e.address == leaf)
 }
 
+// Only an entry in which the leaf's address stands is decoded: no other can name the leaf.
+fn frame_names_leaf(table: &[u64], frame: usize, leaf: u64) -> bool
+    ensures { λ r. ⌜ r ≡ namesLeaf (entryIn (now (table .entry)) frame) leaf ⌝ }
+{
+    let there = table::address(table, frame) == leaf;
+    if there {
+        return names_leaf(table::read(table, frame), leaf);
+    }
+    false
+}
+
 // 15: whether some well formed FIXED entry names the leaf at this address.
 pub fn leaf_in_use(table: &[u64], leaf: u64) -> bool
     ensures { λ r. ⌜ ((memory : List ℕ) → r
@@ -26,7 +37,7 @@ pub fn leaf_in_use(table: &[u64], leaf: u64) -> bool
     let n = table::covered(table);
     let mut frame = 0;
     while frame < n {
-        let named = names_leaf(table::read(table, frame), leaf);
+        let named = frame_names_leaf(table, frame, leaf);
         if named {
             return true;
         }

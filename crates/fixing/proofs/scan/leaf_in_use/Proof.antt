@@ -25,16 +25,13 @@ loop-holds : tie.Need-loop-holds Inv-loop μ-loop
 unfolding leafInUse
 loop-holds c = (omega arith, λ m. refl)
 
-read-requires : tie.Need-read-requires Inv-loop μ-loop
-read-requires c κs = search needs
-
-names-leaf-requires : tie.Need-names-leaf-requires Inv-loop μ-loop
-names-leaf-requires c κs = search needs
+frame-names-leaf-requires : tie.Need-frame-names-leaf-requires Inv-loop μ-loop
+frame-names-leaf-requires c κs = search needs
 
 returns : tie.Need-returns Inv-loop μ-loop
 returns c =
-    let at = c .before .before .before .before in
-    λ m. in-use _ m _ _ _ _ (at .loop .inv .1 m) (c .before .before .read .ensures) (c .before .names-leaf .ensures) _ (c .if1 .taken)
+    let at = c .before .before .before in
+    λ m. in-use _ m _ _ _ (at .loop .inv .1 m) (c .before .frame-names-leaf .ensures) _ (c .if1 .taken)
     (omega (arith, at .before .covered .ensures))
 
 add-frame : tie.Need-add-frame Inv-loop μ-loop
@@ -45,8 +42,8 @@ loop-less c = search needs
 
 loop-again : tie.Need-loop-again Inv-loop μ-loop
 loop-again c =
-    let inv = c .before .before .before .before .loop .inv in
-    (omega arith, λ m. still-unused _ m _ _ _ _ (inv .1 m) (c .before .before .read .ensures) (c .before .names-leaf .ensures) (c .if1 .left))
+    let inv = c .before .before .before .loop .inv in
+    (omega arith, λ m. still-unused _ m _ _ _ (inv .1 m) (c .before .frame-names-leaf .ensures) (c .if1 .left))
 
 returns-2 : tie.Need-returns-2 Inv-loop μ-loop
 returns-2 c =
@@ -61,8 +58,7 @@ leaf-in-use-spec =
     μ-loop
     covered-requires
     loop-holds
-    read-requires
-    names-leaf-requires
+    frame-names-leaf-requires
     returns
     add-frame
     loop-less
