@@ -1,79 +1,53 @@
--- `words::run::copy` meets its contract: after i turns the first i words of `source` are laid over the front of `target`.
+-- `words::run::copy` meets its contract: an array of as many words as `source` becomes `source`, and is then what is copied.
 -- Assumes nothing.
-use mathlib.Core.Path.{_≡_, sym}
-use mathlib.Core.Logic.{⊎-elim}
-use Prim.Native.Nat.{_-_, _≤_, min}
-use native.Mathlib.Nat.{zero-add}
+use mathlib.Core.Path.{_≡_, _∙_}
 use native.Mathlib.Omega.{arith}
-use lib.ListN.{length, take, length-take}
-use lib.Seq.{getD-take}
 use borrow.Author.Needs.{needs}
-use Rattle.words.specs.Run.{copied}
-use Rattle.words.proofs.Laid.{Laid, laid-none, laid-up, laid-all}
+use Rattle.words.proofs.RunLaws.{copied-whole}
 use Rattle.words.proofs.run.copy.Statement.{statement}
 use Rattle.words.proofs.run.copy.Tie as tie
 
-abbrev Inv-loop : tie.InvT-loop
-Inv-loop target₀ source n i₀ target i = (i ≤ n) × (n ≡ min (length target₀) (length source)) × Laid target₀ 0 (take (length target₀) source) 0 i target
+slice-aggregate-copy-words : tie.Need-slice-aggregate-copy-words
+slice-aggregate-copy-words c = search needs
 
-abbrev μ-loop : tie.MeasureT-loop
-μ-loop target₀ source n i₀ target i = n - i
+copy-words-requires : tie.Need-copy-words-requires
+copy-words-requires c κs = search needs
 
-loop-holds : tie.Need-loop-holds Inv-loop μ-loop
-loop-holds c = (search needs, ⊎-elim (λ w. omega arith) (λ w. omega arith) (c .if1 .came), laid-none _ _ _ _)
+slice-aggregate-copy-words-2 : tie.Need-slice-aggregate-copy-words-2
+slice-aggregate-copy-words-2 c = search needs
 
-mul-target : tie.Need-mul-target Inv-loop μ-loop
-mul-target c = search needs
+copy-words-requires-2 : tie.Need-copy-words-requires-2
+copy-words-requires-2 c κs = search needs
 
-shared-slice-read-target : tie.Need-shared-slice-read-target Inv-loop μ-loop
-shared-slice-read-target c = search needs
-
-mul-target-2 : tie.Need-mul-target-2 Inv-loop μ-loop
-mul-target-2 c = search needs
-
-slice-write-target : tie.Need-slice-write-target Inv-loop μ-loop
-slice-write-target c = search needs
-
-add-i : tie.Need-add-i Inv-loop μ-loop
-add-i c = search needs
-
-loop-less : tie.Need-loop-less Inv-loop μ-loop
-loop-less c = search needs
-
-loop-again : tie.Need-loop-again Inv-loop μ-loop
-loop-again c =
-    let l = c .before .before .loop in
-    let t = c .before .before .before .before .args .target .now in
-    let s = c .before .before .before .before .args .source .now in (
-      omega arith,
-      l .inv .1,
-      rw zero-add at (laid-up t 0 (take (length t) s) 0 (l .i) (l .target) _ (omega arith) (omega arith) (sym (getD-take (length t) s (l .i) 0 (omega arith))) (l .inv .2)),
-    )
-
-same-length : tie.Need-same-length Inv-loop μ-loop
+same-length : tie.Need-same-length
 same-length c = search needs
 
-returns : tie.Need-returns Inv-loop μ-loop
-unfolding copied
+returns : tie.Need-returns
 returns c =
-    let l = c .before .loop in
-    let t = c .before .before .before .args .target .now in
-    let whole : length (take (length t) (c .before .before .before .args .source .now)) ≡ l .i = simp length-take (omega arith) in
-    laid-all t 0 _ (l .target) (l .i) whole (omega arith) (l .inv .2)
+    let at-copy = c .before .before .before .before .before .before in
+    let source = at-copy .before .before .before .before .before .before .args .source .now in
+    let held : at-copy .copy-words .last .0 ≡ source = at-copy .copy-words .ensures ∙ copied-whole _ source (omega arith) in
+    c .before .before .copy-words2 .ensures ∙ rw held
+
+copy-words-requires-3 : tie.Need-copy-words-requires-3
+copy-words-requires-3 c κs = search needs
+
+same-length-2 : tie.Need-same-length-2
+same-length-2 c = search needs
+
+returns-2 : tie.Need-returns-2
+returns-2 c = search needs
 
 pub copy-spec : {M : Type 1} → statement M
 copy-spec =
     tie.close
     (tie.spec
-    Inv-loop
-    μ-loop
-    loop-holds
-    mul-target
-    shared-slice-read-target
-    mul-target-2
-    slice-write-target
-    add-i
-    loop-less
-    loop-again
+    slice-aggregate-copy-words
+    copy-words-requires
+    slice-aggregate-copy-words-2
+    copy-words-requires-2
     same-length
-    returns)
+    returns
+    copy-words-requires-3
+    same-length-2
+    returns-2)
