@@ -1,0 +1,151 @@
+//! What was accepted in histories: openings, merges and the like, and the reads that the ledger has a claim about.
+
+use std::collections::BTreeMap;
+use std::fmt;
+
+use second::{Answer, Call};
+
+use crate::monitor::Outcome;
+use crate::state::{State, FRAME_BYTES};
+
+/// What is counted. None may stay at zero.
+#[derive(Clone, Copy)]
+enum Event {
+    Opening,
+    OpenedAgain,
+    Closing,
+    Merge,
+    MergedAgain,
+    Unmerge,
+    OwnerUnmerged,
+    Unfix,
+    Read,
+    MovedRead,
+}
+
+/// By the order of `Event`.
+const NAMES: [&str; 10] = [
+    "openings",
+    "openings of an address that was opened before",
+    "closings",
+    "merges",
+    "merges of a page that was merged or unmerged before",
+    "unmerges",
+    "unmerges of the owner",
+    "unfixes",
+    "reads at an address that was opened once",
+    "reads at an address that was opened once, of a page that was merged or unmerged",
+];
+
+#[derive(Default)]
+pub struct Counts {
+    counts: [u64; NAMES.len()],
+}
+
+/// A guest and an address.
+type Holding = (u64, u64);
+
+/// What a history has brought a guest and address so far.
+#[derive(Default)]
+pub struct Past {
+    openings: BTreeMap<Holding, u64>,
+    moves: BTreeMap<Holding, u64>,
+}
+
+/// Whose page a PMERGE or PUNMERGE moves.
+#[derive(Clone, Copy)]
+pub struct Moved {
+    holding: Holding,
+    owner: bool,
+}
+
+/// Whose page the call moves, if it is accepted in this state.
+pub fn moved(call: &Call, before: &State) -> Option<Moved> {
+    let page = |hpa: u64| {
+        let frame = usize::try_from(hpa / FRAME_BYTES).ok()?;
+        (frame < before.n()).then(|| before.page(frame))
+    };
+    match *call {
+        Call::Pmerge { hpa2, .. } => {
+            let page = page(hpa2)?;
+            Some(Moved {
+                holding: (page.asid, page.address),
+                owner: false,
+            })
+        }
+        Call::Punmerge { hpa1, asid, .. } => {
+            let fixed = page(hpa1)?;
+            let word = before.leaf(fixed)?.get(usize::try_from(asid).ok()?)?;
+            Some(Moved {
+                holding: (asid, word & !1),
+                owner: asid == fixed.asid,
+            })
+        }
+        _ => None,
+    }
+}
+
+impl Counts {
+    /// Counts what a call brought.
+    pub fn note(&mut self, call: &Call, outcome: Outcome, moved: Option<Moved>, past: &mut Past) {
+        let Outcome::Answered(answer) = outcome else {
+            return;
+        };
+        match (*call, answer) {
+            (Call::Pvalidate { caller, gpa, .. }, Answer::Opened) => {
+                let openings = past.openings.entry((caller, gpa)).or_default();
+                *openings += 1;
+                self.add(Event::Opening, true);
+                self.add(Event::OpenedAgain, *openings > 1);
+            }
+            (_, Answer::Closed { .. }) => self.add(Event::Closing, true),
+            (Call::Pmerge { .. } | Call::Punmerge { .. }, Answer::Done) => {
+                self.note_move(call, moved, past);
+            }
+            (Call::Punfix { .. }, Answer::Done) => self.add(Event::Unfix, true),
+            #[rustfmt::skip]
+            (Call::Read { caller, gpa, gtype: 1 | 2, .. }, Answer::Word(_)) => {
+                let once = past.openings.get(&(caller, gpa)) == Some(&1);
+                self.add(Event::Read, once);
+                self.add(Event::MovedRead, once && past.moves.contains_key(&(caller, gpa)));
+            }
+            _ => {}
+        }
+    }
+
+    fn note_move(&mut self, call: &Call, moved: Option<Moved>, past: &mut Past) {
+        let Some(Moved { holding, owner }) = moved else {
+            return;
+        };
+        let moves = past.moves.entry(holding).or_default();
+        *moves += 1;
+        let merge = matches!(call, Call::Pmerge { .. });
+        self.add(Event::Merge, merge);
+        self.add(Event::MergedAgain, merge && *moves > 1);
+        self.add(Event::Unmerge, !merge);
+        self.add(Event::OwnerUnmerged, !merge && owner);
+    }
+
+    fn add(&mut self, event: Event, met: bool) {
+        self.counts[event as usize] += u64::from(met);
+    }
+
+    /// What was never met, and has to be.
+    pub fn faults(&self) -> Vec<String> {
+        let named = NAMES.iter().zip(self.counts);
+        let missing = named.filter(|(_, count)| *count == 0);
+        missing
+            .map(|(name, _)| format!("never met in a history: {name}"))
+            .collect()
+    }
+}
+
+impl fmt::Display for Counts {
+    fn fmt(&self, f: &mut fmt::Formatter<'_>) -> fmt::Result {
+        writeln!(f, "accepted in histories, and held against the ledger:")?;
+        for (name, count) in NAMES.iter().zip(self.counts) {
+            writeln!(f, "{count:>9} {name}")?;
+        }
+        Ok(())
+    }
+}

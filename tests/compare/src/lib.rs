@@ -1,0 +1,25 @@
+//! Compares two monitors, and two script programs, on random calls; the same seed and size give the same calls.
+//!
+//! The proved library and the second program are compared by `cargo run --profile compare -p compare`. Everything here is written for
+//! any two monitors, so that the tests can plant faults in one of them and see that they are found.
+
+#![forbid(unsafe_code)]
+
+pub mod arguments;
+pub mod counts;
+mod damage;
+mod guided;
+pub mod histories;
+pub mod monitor;
+pub mod pair;
+pub mod program;
+pub mod random;
+pub mod report;
+pub mod run;
+pub mod scripts;
+pub mod sequences;
+pub mod shrink;
+pub mod state;
+mod states;
+pub mod table;
+pub mod wrong_lines;

@@ -1,0 +1,82 @@
+//! Two monitors on two equal states: a call is made by each, and answers, tables and memories are compared whole.
+
+use second::Call;
+
+use crate::monitor::{make, Monitor, Outcome};
+use crate::state::State;
+
+/// How many differing words a finding lists.
+const LISTED: usize = 12;
+
+pub struct Pair<'a> {
+    pub monitors: [&'a dyn Monitor; 2],
+    pub states: [State; 2],
+}
+
+/// What is wrong with a call: the two differ, or something is claimed that does not hold.
+#[derive(Clone, Debug)]
+pub struct Finding {
+    pub call: Call,
+    pub outcomes: [Outcome; 2],
+    /// The first words in which the states after the call differ.
+    pub words: Vec<Differing>,
+    pub claim: Option<String>,
+}
+
+#[derive(Clone, Debug)]
+pub struct Differing {
+    pub in_table: bool,
+    pub position: usize,
+    pub words: [u64; 2],
+}
+
+impl<'a> Pair<'a> {
+    pub fn new(monitors: [&'a dyn Monitor; 2], start: &State) -> Self {
+        Self {
+            monitors,
+            states: [start.clone(), start.clone()],
+        }
+    }
+
+    /// Both make the call.
+    pub fn step(&mut self, call: &Call) -> Result<Outcome, Box<Finding>> {
+        let outcomes = [self.make(0, call), self.make(1, call)];
+        self.agree(call, outcomes)
+    }
+
+    /// One of the two makes the call.
+    pub fn make(&mut self, side: usize, call: &Call) -> Outcome {
+        make(self.monitors[side], call, &mut self.states[side])
+    }
+
+    /// Whether the outcomes of a call and the states after it are the same.
+    pub fn agree(&self, call: &Call, outcomes: [Outcome; 2]) -> Result<Outcome, Box<Finding>> {
+        let [left, right] = &self.states;
+        if outcomes[0] == outcomes[1] && left == right {
+            return Ok(outcomes[0]);
+        }
+        let tables = differing(true, &left.table, &right.table);
+        let memories = differing(false, &left.memory, &right.memory);
+        Err(Box::new(Finding {
+            call: *call,
+            outcomes,
+            words: tables.chain(memories).take(LISTED).collect(),
+            claim: None,
+        }))
+    }
+}
+
+fn differing<'a>(
+    in_table: bool,
+    left: &'a [u64],
+    right: &'a [u64],
+) -> impl Iterator<Item = Differing> + 'a {
+    let pairs = left.iter().zip(right).enumerate();
+    pairs
+        .filter(|(_, (one, two))| one != two)
+        .map(move |(position, (&one, &two))| Differing {
+            in_table,
+            position,
+            words: [one, two],
+        })
+}

@@ -1,0 +1,127 @@
+//! What is printed where a fault is found: the smallest case, as words and as lines of a script, and what was answered.
+
+use std::fmt;
+
+use second::Answer;
+
+use crate::monitor::{Monitor, Outcome};
+use crate::pair::Finding;
+use crate::shrink::{smallest, Case, Check};
+use crate::state::FRAME_WORDS;
+
+/// At most so many words of a table or memory are printed.
+const PRINTED: usize = 40;
+
+pub struct Report {
+    pub part: &'static str,
+    pub names: [String; 2],
+    pub case: Case,
+    pub finding: Finding,
+}
+
+impl Report {
+    /// The report of a case that showed a fault, made small first. A monitor that keeps something between calls may not show it again.
+    pub fn new(
+        part: &'static str,
+        monitors: [&dyn Monitor; 2],
+        case: Case,
+        mut finding: Finding,
+        check: &Check,
+    ) -> Box<Self> {
+        let case = match check(&case) {
+            Some(_) => smallest(case, check),
+            None => case,
+        };
+        match check(&case) {
+            Some(again) => finding = *again,
+            None => finding.claim = Some("the same calls do not show this again".to_owned()),
+        }
+        Box::new(Self {
+            part,
+            names: monitors.map(|monitor| monitor.name().to_owned()),
+            case,
+            finding,
+        })
+    }
+
+    /// How many words of the table and of memory are not zero.
+    pub fn words(&self) -> (usize, usize) {
+        let count = |words: &[u64]| words.iter().filter(|&&word| word != 0).count();
+        (
+            count(&self.case.start.table),
+            count(&self.case.start.memory),
+        )
+    }
+
+    fn print_finding(&self, f: &mut fmt::Formatter<'_>) -> fmt::Result {
+        let Self { names, finding, .. } = self;
+        writeln!(f, "at `{}`:", finding.call)?;
+        for (name, outcome) in names.iter().zip(finding.outcomes) {
+            writeln!(f, "    {name}: {}", said(outcome))?;
+        }
+        if let Some(claim) = &finding.claim {
+            writeln!(f, "    {claim}")?;
+        }
+        for word in &finding.words {
+            let (place, [one, two]) = (place(word.in_table, word.position), word.words);
+            let [first, second] = names;
+            writeln!(f, "    after it {place}: {first} {one:x}, {second} {two:x}")?;
+        }
+        Ok(())
+    }
+}
+
+impl fmt::Display for Report {
+    fn fmt(&self, f: &mut fmt::Formatter<'_>) -> fmt::Result {
+        let Case { start, calls } = &self.case;
+        let (t, m) = (start.table.len(), start.memory.len());
+        writeln!(f, "{}: a fault", self.part)?;
+        writeln!(
+            f,
+            "table of {t} words, memory of {m}; zero but for, in hex:"
+        )?;
+        print_words(f, true, &start.table)?;
+        print_words(f, false, &start.memory)?;
+        writeln!(f, "calls:")?;
+        for call in calls {
+            writeln!(f, "    {call}")?;
+        }
+        self.print_finding(f)
+    }
+}
+
+fn print_words(f: &mut fmt::Formatter<'_>, in_table: bool, words: &[u64]) -> fmt::Result {
+    let set = words.iter().enumerate().filter(|(_, &word)| word != 0);
+    for (position, word) in set.clone().take(PRINTED) {
+        writeln!(f, "    {} = {word:x}", place(in_table, position))?;
+    }
+    match set.count().saturating_sub(PRINTED) {
+        0 => Ok(()),
+        more => writeln!(f, "    and {more} more"),
+    }
+}
+
+/// A word's place, as docs/CALLS.md writes it.
+fn place(in_table: bool, position: usize) -> String {
+    let (frame, index) = (position / FRAME_WORDS, position % FRAME_WORDS);
+    match in_table {
+        true => format!("t[{position}]"),
+        false => format!("m[512*{frame} + {index}]"),
+    }
+}
+
+fn said(outcome: Outcome) -> String {
+    let Outcome::Answered(answer) = outcome else {
+        return "panicked".to_owned();
+    };
+    match answer {
+        Answer::Refused(number) => format!("refused with {number}"),
+        Answer::Closed { asid, gpa } => format!("closed {asid:x} {gpa:x}"),
+        Answer::Word(word) => format!("word {word:x}"),
+        Answer::Count(count) => format!("count {count:x}"),
+        Answer::Done => "done".to_owned(),
+        Answer::None => "none".to_owned(),
+        Answer::Opened => "opened".to_owned(),
+        Answer::Already => "already".to_owned(),
+    }
+}

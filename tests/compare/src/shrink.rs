@@ -1,0 +1,330 @@
+//! Makes a case that shows a fault as small as can be found: whatever can go while the fault stays, goes.
+
+use second::Call;
+
+use crate::arguments::{self, Kind};
+use crate::pair::Finding;
+use crate::state::{address, State, FIXED, FRAME_BYTES, FRAME_WORDS};
+
+/// Calls that are made in order, from this state on.
+#[derive(Clone)]
+pub struct Case {
+    pub start: State,
+    pub calls: Vec<Call>,
+}
+
+/// What a case shows, if it shows a fault.
+pub type Check<'a> = dyn Fn(&Case) -> Option<Box<Finding>> + 'a;
+
+/// Memories up to so many words are searched column by column too.
+const SMALL: usize = 64 * FRAME_WORDS;
+/// Where more words are not zero, their bits are left alone.
+const FEW: usize = 64;
+
+/// The fewest items, in order, on which the fault stays: drops ever smaller runs of them.
+pub fn fewest<T: Clone>(items: &[T], mut fails: impl FnMut(&[T]) -> bool) -> Vec<T> {
+    let mut items = items.to_vec();
+    let mut size = items.len();
+    while size > 0 {
+        let mut dropped = false;
+        let mut start = 0;
+        while start < items.len() {
+            let end = items.len().min(start + size);
+            let rest = [&items[..start], &items[end..]].concat();
+            if fails(&rest) {
+                items = rest;
+                dropped = true;
+            } else {
+                start = end;
+            }
+        }
+        if size > 1 || !dropped {
+            size /= 2;
+        }
+    }
+    items
+}
+
+/// The smallest case that is found by dropping calls, words, bits and sizes in turn.
+pub fn smallest(mut case: Case, check: &Check) -> Case {
+    for _ in 0..6 {
+        let mut smaller = drop_calls(&mut case, check);
+        smaller |= drop_frames(&mut case, check);
+        smaller |= shorten(&mut case, check);
+        let large = case.start.memory.len() > SMALL;
+        if !large {
+            smaller |= clear_columns(&mut case, check);
+        }
+        smaller |= clear_words(&mut case, table, check);
+        smaller |= clear_words(&mut case, memory, check);
+        if large && smaller {
+            continue;
+        }
+        smaller |= simplify_calls(&mut case, check);
+        smaller |= clear_bits(&mut case, table, check);
+        smaller |= clear_bits(&mut case, memory, check);
+        if !smaller {
+            break;
+        }
+    }
+    case
+}
+
+fn table(state: &mut State) -> &mut Vec<u64> {
+    &mut state.table
+}
+
+fn memory(state: &mut State) -> &mut Vec<u64> {
+    &mut state.memory
+}
+
+fn drop_calls(case: &mut Case, check: &Check) -> bool {
+    let before = case.calls.len();
+    let start = &case.start;
+    case.calls = fewest(&case.calls, |calls| {
+        check(&Case {
+            start: start.clone(),
+            calls: calls.to_vec(),
+        })
+        .is_some()
+    });
+    case.calls.len() < before
+}
+
+/// Fewer frames, by halves and then one by one; a length that is no whole number of them keeps its odd words.
+fn shorten(case: &mut Case, check: &Check) -> bool {
+    let mut smaller = false;
+    for (part, unit) in [
+        (memory as fn(&mut State) -> &mut Vec<u64>, FRAME_WORDS),
+        (table, 2),
+    ] {
+        let halved = |length: usize| length / unit / 2 * unit + length % unit;
+        let lessened = |length: usize| length.saturating_sub(unit);
+        for next in [&halved as &dyn Fn(usize) -> usize, &lessened] {
+            loop {
+                let words = part(&mut case.start);
+                let length = next(words.len());
+                if length == words.len() {
+                    break;
+                }
+                let cut = words.split_off(length);
+                if check(case).is_none() {
+                    part(&mut case.start).extend(cut);
+                    break;
+                }
+                smaller = true;
+            }
+        }
+    }
+    smaller
+}
+
+/// Zeroes the same words of all frames at once: frames that have to be equal stay so.
+fn clear_columns(case: &mut Case, check: &Check) -> bool {
+    let mut smaller = false;
+    let mut size = FRAME_WORDS;
+    while size > 0 {
+        for start in (0..FRAME_WORDS).step_by(size) {
+            let saved = case.start.memory.clone();
+            for frame in case.start.memory.chunks_exact_mut(FRAME_WORDS) {
+                frame[start..start + size].fill(0);
+            }
+            if case.start.memory == saved {
+                continue;
+            }
+            if check(case).is_some() {
+                smaller = true;
+            } else {
+                case.start.memory = saved;
+            }
+        }
+        size /= 2;
+    }
+    smaller
+}
+
+/// Zeroes ever smaller runs of words.
+fn clear_words(case: &mut Case, part: fn(&mut State) -> &mut Vec<u64>, check: &Check) -> bool {
+    let mut smaller = false;
+    let length = part(&mut case.start).len();
+    let mut size = length.next_power_of_two();
+    while size > 0 {
+        for start in (0..length).step_by(size) {
+            let range = start..length.min(start + size);
+            let words = &mut part(&mut case.start)[range.clone()];
+            if words.iter().all(|&word| word == 0) {
+                continue;
+            }
+            let saved = words.to_vec();
+            words.fill(0);
+            if check(case).is_some() {
+                smaller = true;
+            } else {
+                part(&mut case.start)[range].copy_from_slice(&saved);
+            }
+        }
+        size /= 2;
+    }
+    smaller
+}
+
+/// Clears bits of the words that are left, from the highest on.
+fn clear_bits(case: &mut Case, part: fn(&mut State) -> &mut Vec<u64>, check: &Check) -> bool {
+    let words = part(&mut case.start);
+    let left: Vec<usize> = (0..words.len())
+        .filter(|&position| words[position] != 0)
+        .collect();
+    if left.len() > FEW {
+        return false;
+    }
+    let mut smaller = false;
+    for position in left {
+        for bit in (0..64).rev() {
+            let word = part(&mut case.start)[position];
+            if word & 1 << bit == 0 {
+                continue;
+            }
+            part(&mut case.start)[position] = word & !(1 << bit);
+            if check(case).is_some() {
+                smaller = true;
+            } else {
+                part(&mut case.start)[position] = word;
+            }
+        }
+    }
+    smaller
+}
+
+/// Takes out frames that have an entry; those above move down, and are named by their new addresses.
+fn drop_frames(case: &mut Case, check: &Check) -> bool {
+    let frames: Vec<usize> = (0..case.start.n()).collect();
+    // where sizes have to be large, every try is slow: then a few have to do
+    let mut tries = if frames.len() > 64 { 8 } else { u32::MAX };
+    let kept = fewest(&frames, |kept| {
+        tries = tries.saturating_sub(1);
+        tries > 0 && check(&restricted(case, kept)).is_some()
+    });
+    let smaller = kept.len() < frames.len();
+    if smaller {
+        *case = restricted(case, &kept);
+    }
+    smaller
+}
+
+/// The case with these frames alone, of those that have an entry.
+fn restricted(case: &Case, kept: &[usize]) -> Case {
+    let State { table, memory } = &case.start;
+    let (n, m) = (case.start.n(), case.start.m());
+    let renamed = |hpa: u64| match usize::try_from(hpa / FRAME_BYTES) {
+        Ok(frame) if (n..=m + 1).contains(&frame) => hpa - address(n - kept.len()),
+        Ok(frame) => kept
+            .binary_search(&frame)
+            .map_or(hpa, |place| hpa - address(frame - place)),
+        Err(_) => hpa,
+    };
+    let part = |words: &[u64], from: usize, to: usize| {
+        words[from.min(words.len())..to.min(words.len())].to_vec()
+    };
+    let mut start = State::zero(0, 0);
+    for &frame in kept {
+        start.table.extend(part(table, 2 * frame, 2 * frame + 2));
+        start
+            .memory
+            .extend(part(memory, FRAME_WORDS * frame, FRAME_WORDS * (frame + 1)));
+    }
+    start.table.extend(part(table, 2 * n, table.len()));
+    start
+        .memory
+        .extend(part(memory, FRAME_WORDS * n, memory.len()));
+    for entry in start
+        .table
+        .chunks_exact_mut(2)
+        .filter(|entry| entry[0] & FIXED != 0)
+    {
+        entry[1] = renamed(entry[1]);
+    }
+    let calls = case
+        .calls
+        .iter()
+        .map(|call| with_frames(call, renamed))
+        .collect();
+    Case { start, calls }
+}
+
+/// The call with the addresses of frames changed.
+fn with_frames(call: &Call, renamed: impl Fn(u64) -> u64) -> Call {
+    let mut numbers = arguments::numbers(call);
+    for (number, &kind) in numbers.iter_mut().zip(arguments::kinds(call.letter())) {
+        if kind == Kind::Frame {
+            *number = renamed(*number);
+        }
+    }
+    arguments::call(call.letter(), &numbers)
+}
+
+/// Puts smaller numbers in the place of each number of the calls: first wherever it stands, then in one place alone.
+fn simplify_calls(case: &mut Case, check: &Check) -> bool {
+    let mut smaller = false;
+    let mut met: Vec<u64> = case.calls.iter().flat_map(arguments::numbers).collect();
+    met.sort_unstable();
+    met.dedup();
+    for number in met {
+        smaller |= replace(case, number, check, |_, _| true);
+    }
+    for place in 0..case.calls.len() {
+        for (argument, number) in arguments::numbers(&case.calls[place])
+            .into_iter()
+            .enumerate()
+        {
+            smaller |= replace(case, number, check, |at, of| (at, of) == (place, argument));
+        }
+    }
+    smaller
+}
+
+/// Replaces a number, in those calls and arguments that are asked for, by the first simpler one that keeps the fault.
+fn replace(
+    case: &mut Case,
+    number: u64,
+    check: &Check,
+    here: impl Fn(usize, usize) -> bool,
+) -> bool {
+    let bits = (0..64).rev().map(|bit| number & !(1 << bit));
+    let simple = [0, 1, 2, 7, 0x1000, 0x2000, 0x3000, 0x4000];
+    for simpler in simple
+        .into_iter()
+        .chain(bits)
+        .filter(|&simpler| simpler < number)
+    {
+        let mut calls = case.calls.clone();
+        for (at, call) in calls.iter_mut().enumerate() {
+            let mut numbers = arguments::numbers(call);
+            for (of, slot) in numbers.iter_mut().enumerate() {
+                if *slot == number && here(at, of) {
+                    *slot = simpler;
+                }
+            }
+            *call = arguments::call(call.letter(), &numbers);
+        }
+        let saved = std::mem::replace(&mut case.calls, calls);
+        if case.calls != saved && check(case).is_some() {
+            return true;
+        }
+        case.calls = saved;
+    }
+    false
+}
+
+#[cfg(test)]
+mod tests {
+    use super::fewest;
+
+    #[test]
+    fn the_fewest_items_are_found() {
+        let items: Vec<u32> = (0..100).collect();
+        let fails = |rest: &[u32]| [7, 50, 99].iter().all(|item| rest.contains(item));
+        assert_eq!(fewest(&items, fails), [7, 50, 99]);
+        assert_eq!(fewest(&items, |rest: &[u32]| rest.len() > 1).len(), 2);
+        assert_eq!(fewest(&items, |_: &[u32]| true), []);
+    }
+}

@@ -1,0 +1,147 @@
+//! How often each call was accepted and refused with each number, and whether that is as it can be.
+
+use std::fmt;
+
+use second::{Answer, Call};
+
+use crate::arguments::LETTERS;
+use crate::monitor::Outcome;
+
+/// Which calls can be accepted, and be refused with 1 to 17: docs/CALLS.md, 'Refusals', the column 'Can be given by'.
+pub const REACHABLE: [&str; 18] = [
+    "UVFMDXRWC", // accepted
+    "UVFMDXRWC", // 1, GEOMETRY
+    "UVFMDXRWC", // 2, ARGUMENT
+    "UVFMDXRW",  // 3, CALLER
+    "UVFMDXRW",  // 4, OUTSIDE
+    "UVFMDXRWC", // 5, BAD ENTRY
+    "UVFMDXRW",  // 6, TYPE
+    "VRW",       // 7, OWNER
+    "VRW",       // 8, ADDRESS
+    "FMRW",      // 9, NOT VALIDATED
+    "UVFMW",     // 10, FIXED
+    "MDX",       // 11, NOT FIXED
+    "MDXRC",     // 12, BROKEN LEAF
+    "DXR",       // 13, NO PLACE
+    "M",         // 14, PLACE TAKEN
+    "F",         // 15, LEAF IN USE
+    "M",         // 16, CONTENTS
+    "X",         // 17, STILL SHARED
+];
+
+const NAMES: [&str; 9] = [
+    "RMPUPDATE",
+    "PVALIDATE",
+    "PFIX",
+    "PMERGE",
+    "PUNMERGE",
+    "PUNFIX",
+    "READ",
+    "WRITE",
+    "CENSUS",
+];
+
+/// Counts by call and column: accepted, then the refusals by number. The last column is for numbers that no refusal has.
+#[derive(Default)]
+pub struct Table {
+    counts: [[u64; 19]; 9],
+}
+
+impl Table {
+    pub fn new() -> Self {
+        Self::default()
+    }
+
+    /// Counts what both monitors answered.
+    pub fn count(&mut self, call: &Call, outcome: Outcome) {
+        let column = match outcome {
+            Outcome::Answered(Answer::Refused(number)) => usize::from(number).clamp(1, 18),
+            Outcome::Answered(_) => 0,
+            Outcome::Panicked => 18,
+        };
+        self.add(call.letter(), column);
+    }
+
+    /// Counts a line that both script programs printed; whether it is an answer.
+    pub fn count_line(&mut self, line: &[u8]) -> bool {
+        let Some((&letter, rest)) = line.split_first() else {
+            return false;
+        };
+        let column = match rest.strip_prefix(b" no ") {
+            None if rest.starts_with(b" ok") => 0,
+            None => return false,
+            Some(digits) => match std::str::from_utf8(digits).map(str::parse::<usize>) {
+                Ok(Ok(number)) => number.clamp(1, 18),
+                _ => 18,
+            },
+        };
+        self.add(char::from(letter), column)
+    }
+
+    fn add(&mut self, letter: char, column: usize) -> bool {
+        let row = LETTERS.iter().position(|&call| call == letter);
+        row.map(|row| self.counts[row][column] += 1).is_some()
+    }
+
+    /// How many calls were counted.
+    pub fn calls(&self) -> u64 {
+        self.counts.iter().flatten().sum()
+    }
+
+    /// How many cells have a count.
+    pub fn reached(&self) -> usize {
+        self.counts
+            .iter()
+            .flatten()
+            .filter(|&&count| count > 0)
+            .count()
+    }
+
+    /// The cells that are empty and must not be, and those that must be empty and are not.
+    pub fn faults(&self) -> Vec<String> {
+        let mut faults = Vec::new();
+        for (row, counts) in self.counts.iter().enumerate() {
+            for (column, &count) in counts.iter().enumerate() {
+                let cell = match column {
+                    0 => format!("{} accepted", NAMES[row]),
+                    18 => format!("{} with a number that no refusal has", NAMES[row]),
+                    number => format!("{} refused with {number}", NAMES[row]),
+                };
+                match (reachable(row, column), count) {
+                    (true, 0) => faults.push(format!("never met: {cell}")),
+                    (false, 1..) => faults.push(format!("met, and can't be: {cell}")),
+                    _ => {}
+                }
+            }
+        }
+        faults
+    }
+}
+
+fn reachable(row: usize, column: usize) -> bool {
+    REACHABLE
+        .get(column)
+        .is_some_and(|letters| letters.contains(LETTERS[row]))
+}
+
+impl fmt::Display for Table {
+    fn fmt(&self, f: &mut fmt::Formatter<'_>) -> fmt::Result {
+        write!(f, "{:9} {:>8}", "", "accepted")?;
+        for number in 1..=17 {
+            write!(f, " {number:>7}")?;
+        }
+        writeln!(f)?;
+        for (row, counts) in self.counts.iter().enumerate() {
+            write!(f, "{:9}", NAMES[row])?;
+            for (column, count) in counts.iter().enumerate().take(18) {
+                let width = if column == 0 { 8 } else { 7 };
+                match (reachable(row, column), count) {
+                    (false, 0) => write!(f, " {:>width$}", ".")?,
+                    _ => write!(f, " {count:>width$}")?,
+                }
+            }
+            writeln!(f)?;
+        }
+        Ok(())
+    }
+}

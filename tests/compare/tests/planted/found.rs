@@ -1,0 +1,99 @@
+//! Every planted fault is found by the sequences of part (b) within the default effort, and what is printed for it is small.
+
+use std::cell::Cell;
+
+use compare::monitor::{Monitor, Second};
+use compare::report::Report;
+use compare::run::{CALLS, SEED};
+use compare::sequences;
+use compare::table::Table;
+use second::{Answer, Call};
+
+use crate::monitors::Planted;
+use crate::{changes, refusals};
+
+/// What is found when the fault stands on this side.
+fn found(fault: &Planted, side: usize) -> Option<Box<Report>> {
+    let mut monitors: [&dyn Monitor; 2] = [&Second, &Second];
+    monitors[side] = fault;
+    sequences::compare(monitors, SEED, CALLS / 2, &mut Table::new()).err()
+}
+
+/// What is wrong with what was found, if anything is.
+fn complaint(fault: &Planted, report: &Report) -> Option<String> {
+    let (table, memory) = report.words();
+    // a fault of a size shows at that size alone
+    let sized = fault.name.contains(",");
+    let small = report.case.calls.len() == 1
+        && table <= 6
+        && memory <= 3
+        && (sized || report.case.start.n() <= 4 && report.case.start.m() <= 4)
+        && report.to_string().lines().count() <= 25;
+    (!small).then(|| format!("not small: {}\n{report}", fault.name))
+}
+
+fn all_are_found(faults: &[Planted]) {
+    let mut complaints = Vec::new();
+    for (number, fault) in faults.iter().enumerate() {
+        match found(fault, number % 2) {
+            None => complaints.push(format!("not found: {}", fault.name)),
+            Some(report) => complaints.extend(complaint(fault, &report)),
+        }
+    }
+    assert!(complaints.is_empty(), "{}", complaints.join("\n"));
+}
+
+#[test]
+fn faults_in_refusals_are_found() {
+    all_are_found(&refusals::FAULTS);
+}
+
+#[test]
+fn faults_in_changes_are_found() {
+    all_are_found(&changes::FAULTS);
+}
+
+/// A monitor that keeps something between calls, as no monitor may: it goes wrong at one call, and never again.
+struct Once(Cell<u64>);
+
+impl Monitor for Once {
+    fn name(&self) -> &str {
+        "once"
+    }
+
+    fn make(&self, call: &Call, table: &mut [u64], memory: &mut [u64]) -> Answer {
+        self.0.set(self.0.get() + 1);
+        match call.make(table, memory) {
+            _ if self.0.get() == 1000 => Answer::Refused(1),
+            answer => answer,
+        }
+    }
+}
+
+#[test]
+fn a_fault_that_does_not_show_again_is_told() {
+    let once = Once(Cell::new(0));
+    let run = sequences::compare([&once, &Second], SEED, 10_000, &mut Table::new());
+    let report = run.expect_err("the fault is found").to_string();
+    assert!(
+        report.contains("the same calls do not show this again"),
+        "{report}"
+    );
+}
+
+/// What a report has to have in it.
+#[test]
+fn a_report_says_all_of_it() {
+    let fault = &changes::FAULTS[0];
+    assert_eq!(fault.name, "PMERGE leaves the merged entry as it was");
+    let report = found(fault, 0).expect("the fault is found").to_string();
+    for part in [
+        "table of 6 words, memory of 1536;",
+        "    t[0] = e0001\n",
+        "calls:\n    M 0 ",
+        "    second: done\n",
+        "    after it t[",
+    ] {
+        assert!(report.contains(part), "{part:?} is not in\n{report}");
+    }
+}

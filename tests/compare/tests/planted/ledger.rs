@@ -1,0 +1,186 @@
+//! Faults that both monitors have, so that they agree: the ledger of the histories has to find them.
+
+use compare::counts::Counts;
+use compare::histories;
+use compare::report::Report;
+use compare::run::SEED;
+use compare::table::Table;
+use second::{Answer, Call};
+
+use crate::changes;
+use crate::monitors::{frame, words, Planted};
+
+fn found(fault: &Planted) -> Option<Box<Report>> {
+    let (mut table, mut counts) = (Table::new(), Counts::default());
+    histories::compare([fault, fault], SEED, 200_000, &mut table, &mut counts).err()
+}
+
+/// The fault is found, and what is claimed has these words in it.
+fn is_found(fault: &Planted, words: &str) {
+    let report = found(fault).unwrap_or_else(|| panic!("not found: {}", fault.name));
+    let claim = report.finding.claim.as_deref();
+    let claim = claim.unwrap_or_else(|| panic!("{}:\n{report}", fault.name));
+    assert!(claim.contains(words), "{}:\n{report}", fault.name);
+    let (calls, (_, memory)) = (report.case.calls.len(), report.words());
+    assert!(
+        calls <= 16 && memory <= 2,
+        "not small: {}\n{report}",
+        fault.name
+    );
+    assert!(
+        report.case.start.table.iter().all(|&word| word == 0),
+        "a history starts empty"
+    );
+}
+
+#[test]
+fn an_old_copy_that_a_guest_left_can_be_read() {
+    let fault = Planted {
+        name: "READ of a fixed page answers where the guest has no place (13)",
+        make: |call, table, memory| match (call.make(table, memory), *call) {
+            (Answer::Refused(13), Call::Read { hpa, index, .. }) => {
+                Answer::Word(memory[words(hpa)][index as usize])
+            }
+            (answer, _) => answer,
+        },
+    };
+    // which claim breaks first depends on the guest: one that was unmerged, or one that never was there
+    let report = found(&fault).expect("the fault is found");
+    assert!(report.finding.claim.is_some(), "{report}");
+}
+
+/// The fault that was paid for. A guest that was unmerged writes to its own copy, and then reads the old one through the fixed page.
+#[test]
+fn a_counter_that_goes_back_is_found() {
+    let fault = Planted {
+        name: "PUNMERGE clears bit 0 of the leaf word alone, and READ takes a word that is not 0 for present",
+        make: |call, table, memory| {
+            let before = memory.to_vec();
+            match (call.make(table, memory), *call) {
+                (Answer::Done, Call::Punmerge { hpa1, asid, .. }) => {
+                    let word = words(table[2 * frame(hpa1) + 1]).start + asid as usize;
+                    memory[word] = before[word] & !1;
+                    Answer::Done
+                }
+                #[rustfmt::skip]
+                (Answer::Refused(13), Call::Read { caller, gpa, hpa, index, .. }) => {
+                    let leaf = words(table[2 * frame(hpa) + 1]).start;
+                    match memory[leaf + caller as usize] {
+                        word if word != 0 && word == gpa => {
+                            Answer::Word(memory[words(hpa)][index as usize])
+                        }
+                        _ => Answer::Refused(13),
+                    }
+                }
+                (answer, _) => answer,
+            }
+        },
+    };
+    is_found(&fault, "was last written");
+}
+
+#[test]
+fn a_page_that_is_not_open_can_be_read() {
+    let fault = Planted {
+        name: "READ does not check VALIDATED (9)",
+        make: |call, table, memory| match (call.make(table, memory), *call) {
+            (Answer::Refused(9), Call::Read { hpa, index, .. }) => {
+                Answer::Word(memory[words(hpa)][index as usize])
+            }
+            (answer, _) => answer,
+        },
+    };
+    is_found(&fault, "");
+}
+
+#[test]
+fn an_owner_that_writes_to_a_merged_page() {
+    let fault = Planted {
+        name: "WRITE lets the owner of a fixed page write to it",
+        make: |call, table, memory| match (call.make(table, memory), *call) {
+            (
+                Answer::Refused(10),
+                Call::Write {
+                    caller,
+                    gpa,
+                    hpa,
+                    index,
+                    value,
+                    ..
+                },
+            ) => {
+                let leaf = words(table[2 * frame(hpa) + 1]).start;
+                let own = table[2 * frame(hpa)] & 0xffff == caller;
+                if own && memory[leaf + caller as usize] == gpa + 1 {
+                    memory[words(hpa)][index as usize] = value;
+                    return Answer::Done;
+                }
+                Answer::Refused(10)
+            }
+            (answer, _) => answer,
+        },
+    };
+    is_found(&fault, " was ");
+}
+
+#[test]
+fn a_write_that_is_lost() {
+    let fault = Planted {
+        name: "WRITE of word 3 changes nothing",
+        make: |call, table, memory| match *call {
+            Call::Write { index: 3, .. } => {
+                let mut copy = memory.to_vec();
+                call.make(table, &mut copy)
+            }
+            _ => call.make(table, memory),
+        },
+    };
+    is_found(&fault, "was last written");
+}
+
+#[test]
+fn places_that_are_lost_or_made_up() {
+    for name in [
+        "PMERGE leaves the merged entry as it was",
+        "PUNMERGE does not set VALIDATED",
+        "PUNMERGE leaves the leaf word",
+        "RMPUPDATE keeps VALIDATED where no field is new",
+        "RMPUPDATE tells the new address as the closed one",
+        "PVALIDATE answers opened always",
+    ] {
+        let fault = changes::FAULTS.iter().find(|fault| fault.name == name);
+        is_found(fault.expect("a fault of this name"), "openings");
+    }
+}
+
+#[test]
+fn a_history_that_meets_5_or_12() {
+    let fault = Planted {
+        name: "PUNMERGE keeps the FIXED flag of the copy",
+        make: |call, table, memory| {
+            let answer = call.make(table, memory);
+            if let (Answer::Done, Call::Punmerge { hpa2, .. }) = (answer, *call) {
+                table[2 * frame(hpa2)] |= 1 << 19;
+            }
+            answer
+        },
+    };
+    assert!(found(&fault).is_some());
+    let fault = Planted {
+        name: "PFIX of a fixed page gives 12",
+        make: |call, table, memory| match (call.make(table, memory), call) {
+            (Answer::Refused(10), Call::Pfix { .. }) => Answer::Refused(12),
+            (answer, _) => answer,
+        },
+    };
+    is_found(&fault, "never meets 12");
+}
+
+#[test]
+fn no_fault_is_found_where_there_is_none() {
+    let (mut table, mut counts) = (Table::new(), Counts::default());
+    let monitors: [&dyn compare::monitor::Monitor; 2] =
+        [&compare::monitor::Proved, &compare::monitor::Second];
+    let run = histories::compare(monitors, SEED, 60_000, &mut table, &mut counts);
+    assert!(run.is_ok_and(|()| counts.faults().is_empty()));
+}

@@ -1,0 +1,344 @@
+//! A bookkeeping of demand 3 from the calls and their answers (document 01,
+//! "The calls", from "A *place* of a guest" on).
+
+use std::collections::BTreeMap;
+
+use crate::call::{Answer, Call};
+use crate::layout::{Entry, Kind, LeafWord, ENTRY_WORDS, FRAME_BYTES, FRAME_WORDS};
+
+/// A guest and one of its page addresses: ASID, GPA.
+type Holding = (u64, u64);
+
+/// What the history so far says of each guest and address.
+#[derive(Default, Debug)]
+pub struct Ledger {
+    accounts: BTreeMap<Holding, Account>,
+}
+
+#[derive(Default, Debug)]
+struct Account {
+    openings: u64,
+    closings: u64,
+    /// The contents as of the first opening; of no use after a second one.
+    page: Option<Page>,
+}
+
+#[derive(Debug)]
+struct Page {
+    /// The words found at the opening.
+    found: Box<[u64; FRAME_WORDS]>,
+    /// The last accepted write since the opening, by word index.
+    written: BTreeMap<u64, u64>,
+}
+
+impl Ledger {
+    /// The ledger of an empty history.
+    pub fn new() -> Self {
+        Self::default()
+    }
+
+    /// Notes a call and its answer. `memory_before` is memory as the call got
+    /// it. An error says which part of demand 3 is broken.
+    pub fn note(
+        &mut self,
+        call: &Call,
+        answer: Answer,
+        memory_before: &[u64],
+    ) -> Result<(), String> {
+        self.enter(call, answer, memory_before)
+            .map_err(|broken| format!("`{call}` answered {answer:?}: {broken}"))
+    }
+
+    #[rustfmt::skip]
+    fn enter(&mut self, call: &Call, answer: Answer, memory: &[u64]) -> Result<(), String> {
+        if !fits(call, answer) {
+            return Err("no answer to this call".to_owned());
+        }
+        match (*call, answer) {
+            (Call::Pvalidate { caller, gpa, hpa, .. }, Answer::Opened) => {
+                self.open((caller, gpa), hpa, memory)?;
+            }
+            (Call::Rmpupdate { .. }, Answer::Closed { asid, gpa }) => {
+                self.account((asid, gpa)).closings += 1;
+            }
+            (Call::Write { caller, gpa, gtype: 1 | 2, index, value, .. }, Answer::Done) => {
+                self.write((caller, gpa), index, value);
+            }
+            (Call::Read { caller, gpa, gtype: 1 | 2, index, .. }, Answer::Word(word)) => {
+                self.check_read((caller, gpa), index, word)?;
+            }
+            _ => {}
+        }
+        Ok(())
+    }
+
+    /// Checks that for each guest and address the places now in table and
+    /// memory plus the closings are exactly the openings.
+    pub fn places(&self, table: &[u64], memory: &[u64]) -> Result<(), String> {
+        let places = count_places(table, memory)?;
+        for &(asid, gpa) in self.accounts.keys().chain(places.keys()) {
+            let places = places.get(&(asid, gpa)).copied().unwrap_or(0);
+            let (openings, closings) = self
+                .accounts
+                .get(&(asid, gpa))
+                .map_or((0, 0), |account| (account.openings, account.closings));
+            if places + closings != openings {
+                return Err(format!(
+                    "guest {asid:x} at {gpa:x}: {places} places and {closings} closings, \
+                     but {openings} openings"
+                ));
+            }
+        }
+        Ok(())
+    }
+
+    fn account(&mut self, holding: Holding) -> &mut Account {
+        self.accounts.entry(holding).or_default()
+    }
+
+    fn open(&mut self, holding: Holding, hpa: u64, memory: &[u64]) -> Result<(), String> {
+        let found = frame_at(memory, hpa)
+            .ok_or_else(|| format!("opened the frame at {hpa:x}, which memory lacks"))?;
+        let account = self.account(holding);
+        account.openings += 1;
+        account.page = (account.openings == 1).then(|| Page {
+            found: Box::new(*found),
+            written: BTreeMap::new(),
+        });
+        Ok(())
+    }
+
+    /// Remembers an accepted private or mergeable write.
+    fn write(&mut self, holding: Holding, index: u64, value: u64) {
+        if let Some(page) = &mut self.account(holding).page {
+            page.written.insert(index, value);
+        }
+    }
+
+    /// Checks an accepted private or mergeable read.
+    fn check_read(&self, holding: Holding, index: u64, word: u64) -> Result<(), String> {
+        let account = self
+            .accounts
+            .get(&holding)
+            .filter(|account| account.openings > 0)
+            .ok_or("the address was never opened")?;
+        let Some(page) = &account.page else {
+            return Ok(()); // opened more than once
+        };
+        let written = page.written.get(&index);
+        let expected = written
+            .or_else(|| page.found.get(usize::try_from(index).ok()?))
+            .ok_or("a page has no such word")?;
+        if word == *expected {
+            return Ok(());
+        }
+        let source = match written {
+            Some(_) => "last written",
+            None => "found at the opening",
+        };
+        Err(format!("{expected:x} was {source}"))
+    }
+}
+
+/// Whether the call may give this answer at all.
+fn fits(call: &Call, answer: Answer) -> bool {
+    match answer {
+        Answer::Refused(number) => (1..=17).contains(&number),
+        Answer::None | Answer::Closed { .. } => matches!(call, Call::Rmpupdate { .. }),
+        Answer::Opened | Answer::Already => matches!(call, Call::Pvalidate { .. }),
+        Answer::Word(_) => matches!(call, Call::Read { .. }),
+        Answer::Count(_) => matches!(call, Call::Census { .. }),
+        Answer::Done => matches!(
+            call,
+            Call::Pfix { .. }
+                | Call::Pmerge { .. }
+                | Call::Punmerge { .. }
+                | Call::Punfix { .. }
+                | Call::Write { .. }
+        ),
+    }
+}
+
+/// The number of places of every guest and address that has one. An error if
+/// an entry or a leaf is broken, as no history makes one.
+fn count_places(table: &[u64], memory: &[u64]) -> Result<BTreeMap<Holding, u64>, String> {
+    let (entries, _) = table.as_chunks::<ENTRY_WORDS>();
+    let decode = |frame: usize| {
+        Entry::decode(entries[frame], entries.len())
+            .ok_or_else(|| format!("the entry of frame {frame:x} is not well formed"))
+    };
+    let mut places = BTreeMap::new();
+    for frame in 0..entries.len() {
+        let page = decode(frame)?;
+        if !page.fixed {
+            if page.validated {
+                *places.entry((page.asid, page.gpa)).or_insert(0) += 1;
+            }
+            continue;
+        }
+        if decode(page.leaf())?.kind != Kind::Leaf {
+            return Err(format!("frame {frame:x} is fixed, but its leaf is no leaf"));
+        }
+        let leaf = frame_at(memory, page.gpa)
+            .ok_or_else(|| format!("memory lacks the leaf of frame {frame:x}"))?;
+        for (asid, &word) in (0..).zip(leaf).skip(1) {
+            match LeafWord::decode(word) {
+                LeafWord::Absent => {}
+                LeafWord::Present { gpa } => *places.entry((asid, gpa)).or_insert(0) += 1,
+                LeafWord::Misshapen => {
+                    return Err(format!(
+                        "leaf word {asid:x} of frame {frame:x} is misshapen"
+                    ));
+                }
+            }
+        }
+    }
+    Ok(places)
+}
+
+/// The words of the frame at this address, if memory has it.
+fn frame_at(memory: &[u64], hpa: u64) -> Option<&[u64; FRAME_WORDS]> {
+    let (frames, _) = memory.as_chunks();
+    frames.get(usize::try_from(hpa / FRAME_BYTES).ok()?)
+}
+
+#[cfg(test)]
+mod tests {
+    use super::*;
+    use crate::script::parse;
+
+    /// A table, a memory and the ledger of the calls made on them.
+    struct Run {
+        table: [u64; 16],
+        memory: [u64; 10 * FRAME_WORDS],
+        ledger: Ledger,
+    }
+
+    impl Run {
+        fn new() -> Self {
+            Self {
+                table: [0; 16],
+                memory: std::array::from_fn(|position| position as u64),
+                ledger: Ledger::new(),
+            }
+        }
+
+        fn make(&mut self, line: &str) -> Result<(), String> {
+            let call = parse(line.as_bytes()).unwrap();
+            let before = self.memory;
+            let answer = call.make(&mut self.table, &mut self.memory);
+            self.ledger.note(&call, answer, &before)?;
+            self.ledger.places(&self.table, &self.memory)
+        }
+
+        fn make_all(&mut self, lines: &[&str]) {
+            for line in lines {
+                assert_eq!(self.make(line), Ok(()), "{line}");
+            }
+        }
+
+        /// Notes an answer to a call that is not made.
+        fn claim(&mut self, line: &str, answer: Answer) -> Result<(), String> {
+            let call = parse(line.as_bytes()).unwrap();
+            self.ledger.note(&call, answer, &self.memory)
+        }
+    }
+
+    const OPENED: [&str; 2] = ["U 0 1000 50000 7 2", "V 7 50000 1000 2"];
+
+    #[test]
+    fn a_wrong_read_is_caught() {
+        let mut run = Run::new();
+        run.make_all(&OPENED);
+        // The update zeroed the frame, so zeros were found at the opening.
+        assert!(run.claim("R 7 50000 1000 2 2 3", Answer::Word(0)).is_ok());
+        assert!(run.claim("R 7 50000 1000 2 2 3", Answer::Word(1)).is_err());
+        run.make_all(&["W 7 50000 1000 2 2 3 2a", "W 7 50000 1000 2 2 3 2b"]);
+        assert!(run
+            .claim("R 7 50000 1000 2 2 3", Answer::Word(0x2b))
+            .is_ok());
+        assert!(run
+            .claim("R 7 50000 1000 2 2 3", Answer::Word(0x2a))
+            .is_err());
+        assert!(run.claim("R 7 50000 1000 2 2 4", Answer::Word(0)).is_ok());
+        // Any frame that is named gives the guest's own words.
+        assert!(run.claim("R 7 50000 9000 1 1 3", Answer::Word(1)).is_err());
+        // Memory that goes back behind the monitor's back.
+        run.memory[FRAME_WORDS + 3] = 0x2a;
+        assert!(run.make("R 7 50000 1000 2 2 3").is_err());
+    }
+
+    #[test]
+    fn words_found_at_the_opening_are_remembered() {
+        let mut run = Run::new();
+        run.make_all(&OPENED[..1]);
+        run.memory[FRAME_WORDS + 5] = 0x55;
+        run.make_all(&OPENED[1..]);
+        run.make_all(&["R 7 50000 1000 2 2 5"]);
+        assert!(run.claim("R 7 50000 1000 2 2 5", Answer::Word(0)).is_err());
+    }
+
+    #[test]
+    fn a_read_without_an_opening_is_caught() {
+        let mut run = Run::new();
+        let read = "R 7 50000 1000 1 1 3";
+        assert!(run.claim(read, Answer::Word(0)).is_err());
+        assert!(run.claim(read, Answer::Refused(9)).is_ok());
+        assert!(run.claim("R 7 50000 1000 0 0 3", Answer::Word(0)).is_ok());
+        // A write before the opening opens nothing.
+        let write = "W 7 50000 1000 1 1 3 2a";
+        assert!(run.claim(write, Answer::Done).is_ok());
+        assert!(run.claim(read, Answer::Word(0x2a)).is_err());
+    }
+
+    #[test]
+    fn a_read_after_two_openings_is_free() {
+        let mut run = Run::new();
+        run.make_all(&OPENED);
+        run.make_all(&["W 7 50000 1000 2 2 3 2a"]);
+        run.make_all(&["U 0 2000 50000 7 2", "V 7 50000 2000 2"]);
+        run.make_all(&["R 7 50000 1000 2 2 3", "R 7 50000 2000 2 2 3"]);
+    }
+
+    #[test]
+    fn a_lost_place_is_caught() {
+        let mut run = Run::new();
+        run.make_all(&OPENED);
+        let zeros = [0; 16];
+        assert!(run.ledger.places(&zeros, &run.memory).is_err());
+        assert!(Ledger::new().places(&run.table, &run.memory).is_err());
+        assert!(Ledger::new().places(&zeros, &run.memory).is_ok());
+        run.make_all(&["U 0 3000 0 0 3", "F 0 1000 3000"]);
+        let own = 3 * FRAME_WORDS + 7;
+        for word in [0, 0x51001, 0x50003] {
+            run.memory[own] = word;
+            assert!(run.ledger.places(&run.table, &run.memory).is_err());
+        }
+        run.memory[own] = 0x50001;
+        assert!(run.ledger.places(&run.table, &run.memory).is_ok());
+        run.memory[own + 1] = 0x50001;
+        assert!(run.ledger.places(&run.table, &run.memory).is_err());
+    }
+
+    #[test]
+    fn a_false_closing_is_caught() {
+        let mut run = Run::new();
+        run.make_all(&OPENED);
+        let update = "U 0 1000 0 0 0";
+        let closed = |asid, gpa| Answer::Closed { asid, gpa };
+        assert!(run.claim(update, closed(7, 0x50000)).is_ok());
+        assert!(run.ledger.places(&run.table, &run.memory).is_err());
+        assert!(run.ledger.places(&[0; 16], &run.memory).is_ok());
+        assert!(run.claim(update, closed(9, 0x50000)).is_ok());
+        assert!(run.ledger.places(&[0; 16], &run.memory).is_err());
+    }
+
+    #[test]
+    fn an_answer_of_another_call_is_caught() {
+        let mut run = Run::new();
+        assert!(run.claim("C 1", Answer::Done).is_err());
+        assert!(run.claim("X 0 1000", Answer::Word(0)).is_err());
+        assert!(run.claim("X 0 1000", Answer::Refused(18)).is_err());
+        assert!(run.claim("X 0 1000", Answer::Refused(0)).is_err());
+    }
+}
