@@ -1,0 +1,66 @@
+//! RMPUPDATE and PVALIDATE, accepted.
+
+use skorbilek::{ENTRY_WORDS, HOST, PRIVATE};
+
+use super::{repeated, steady};
+use crate::calls::{Pvalidate, Rmpupdate};
+use crate::scene::{Scene, Turn};
+use crate::world::{gpa, guest, hpa, private, World};
+
+const FRAMES: usize = 4;
+
+/// Pages of guests, not open, in all frames or the first few.
+pub fn pages(n: usize, frames: usize) -> World {
+    let mut world = World::new(n);
+    for frame in 0..frames {
+        world.put(frame, private(frame));
+    }
+    world
+}
+
+/// RMPUPDATE that leaves the entry as it is.
+pub fn stays(n: usize) -> Scene<Rmpupdate, 0, 0> {
+    Scene {
+        world: pages(n, FRAMES),
+        turns: steady(FRAMES, |frame| given(frame, guest(frame))),
+    }
+}
+
+/// RMPUPDATE that gives each frame to another guest, and on the next turn back.
+pub fn changes(n: usize) -> Scene<Rmpupdate, 0, 0> {
+    let to_other = (0..FRAMES).map(|frame| given(frame, guest(frame) + 1));
+    let back = (0..FRAMES).map(|frame| given(frame, guest(frame)));
+    Scene {
+        world: pages(n, FRAMES),
+        turns: repeated(to_other.chain(back).map(Turn::steady).collect()),
+    }
+}
+
+/// The call by which the host gives a frame to a guest.
+pub fn given(frame: usize, asid: u64) -> Rmpupdate {
+    Rmpupdate {
+        caller: HOST,
+        hpa: hpa(frame),
+        gpa: gpa(frame),
+        asid,
+        kind: PRIVATE,
+    }
+}
+
+/// PVALIDATE that opens a page. One word is put back.
+pub fn opened(n: usize) -> Scene<Pvalidate, 1, 0> {
+    let turn = |frame| Turn {
+        call: Pvalidate {
+            caller: guest(frame),
+            gpa: gpa(frame),
+            hpa: hpa(frame),
+            kind: PRIVATE,
+        },
+        table: [(ENTRY_WORDS * frame, private(frame)[0])],
+        memory: [],
+    };
+    Scene {
+        world: pages(n, FRAMES),
+        turns: repeated((0..FRAMES).map(turn).collect()),
+    }
+}
