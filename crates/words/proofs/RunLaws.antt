@@ -1,5 +1,6 @@
 -- A run laid over words: the length stays, the run stands where it was laid, and every other word stays; a part that is lent comes
--- back as such a run; two runs with no differing word agree at every place. For runs of any length.
+-- back as such a run; two runs with no differing word agree at every place; each word adds its bit 0 to how many are odd. For runs of
+-- any length.
 -- Assumes nothing.
 use mathlib.Core.Path.{_≡_, refl, sym, ap, _∙_}
 use mathlib.Core.Bool.{Bool, true, false}
