@@ -1,4 +1,5 @@
-// The checks of READ and WRITE, which are the same but for a fixed page.
+// The checks of READ and WRITE, which are the same but for a fixed page. They come in three parts, each small enough to be compiled into
+// both calls: what an access begins with, the frame that it reaches, and what is allowed there.
 ghost use mathlib.Core.Path.{_≡_};
 ghost use mathlib.Core.List.{List};
 ghost use Prim.Native.Nat.{ℕ};
@@ -28,23 +29,6 @@ use needs::gates;
 pub const READING: bool = false;
 
 pub const WRITING: bool = true;
-
-// Of a fixed page: the caller's word in its leaf decides.
-fn fixed(table: &[u64], memory: &[u64], writes: bool, caller: u64, gpa: u64, page: Entry) -> Gate
-    ensures { λ g. ⌜ ((v : Verdict) → past g v
-        ≡ fixedAccess (state (now (table .entry)) (now (memory .entry))) writes caller gpa page v) ⌝ }
-{
-    let may = gates::fixed_access(writes);
-    if let Gate::Shut(refusal) = may {
-        return Gate::Shut(refusal);
-    }
-    let word = leaves::consulted(table, memory, page, caller);
-    match word {
-        LeafWord::Misshapen => Gate::Shut(Refusal::BrokenLeaf),
-        LeafWord::Absent => Gate::Shut(Refusal::NoPlace),
-        LeafWord::Present(held) => go_on(held == gpa, Refusal::Address, Gate::Open),
-    }
-}
 
 // The frame that an access reaches: a SHARED one, which needs no more checks, a page of a guest, or a refusal.
 pub enum Reached {
@@ -133,4 +117,21 @@ pub fn allowed(
         return fixed(table, memory, writes, caller, gpa, page);
     }
     gates::unfixed_access(writes, page, caller, gpa)
+}
+
+// Of a fixed page: the caller's word in its leaf decides.
+fn fixed(table: &[u64], memory: &[u64], writes: bool, caller: u64, gpa: u64, page: Entry) -> Gate
+    ensures { λ g. ⌜ ((v : Verdict) → past g v
+        ≡ fixedAccess (state (now (table .entry)) (now (memory .entry))) writes caller gpa page v) ⌝ }
+{
+    let may = gates::fixed_access(writes);
+    if let Gate::Shut(refusal) = may {
+        return Gate::Shut(refusal);
+    }
+    let word = leaves::consulted(table, memory, page, caller);
+    match word {
+        LeafWord::Misshapen => Gate::Shut(Refusal::BrokenLeaf),
+        LeafWord::Absent => Gate::Shut(Refusal::NoPlace),
+        LeafWord::Present(held) => go_on(held == gpa, Refusal::Address, Gate::Open),
+    }
 }
