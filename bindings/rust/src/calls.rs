@@ -90,7 +90,19 @@ pub fn pvalidate(
 }
 
 /// PFIX: the host fixes the MERGEABLE page at `hpa`, with the LEAF at `leaf`, so that others can be merged into it. Answers
-/// [`Answer::Done`]. [`pmerge`] has an example.
+/// [`Answer::Done`].
+///
+/// ```
+/// # use skorbilek::*;
+/// # let (mut table, mut memory) = ([0; 16], vec![0; 5120]);
+/// # rmpupdate(&mut table, &mut memory, HOST, 0x1000, 0x50000, 7, MERGEABLE)?;
+/// # pvalidate(&mut table, &memory, 7, 0x50000, 0x1000, MERGEABLE)?;
+/// // guest 7's page is in frame 1; frame 3 becomes its leaf
+/// assert_eq!(pfix(&mut table, &mut memory, HOST, 0x1000, 0x3000), Err(Refusal::PageType));
+/// rmpupdate(&mut table, &mut memory, HOST, 0x3000, 0, 0, LEAF)?;
+/// pfix(&mut table, &mut memory, HOST, 0x1000, 0x3000)?;
+/// # Ok::<(), Refusal>(())
+/// ```
 #[inline]
 pub fn pfix(
     table: &mut [u64],
