@@ -12,7 +12,7 @@ use Rattle.rules.specs.Access.{coveredAccess, access}
 use Rattle.rules.specs.Answers.{Verdict, unless, begins}
 use Rattle.rules.specs.Arguments.{accessArguments, mayAccess}
 use Rattle.rules.specs.Refusals.{TYPE}
-use Rattle.rules.specs.State.{State, state, M}
+use Rattle.rules.specs.State.{state, M}
 use Rattle.checks.specs.Gate.{past}
 use Rattle.checks.specs.declared.gate.Gate.{Gate}
 use Rattle.access.specs.Reached.{reached, coveredReached, frameReached, pageAccess}
