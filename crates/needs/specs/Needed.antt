@@ -1,12 +1,13 @@
 -- What a row of the table asks, as a chain of checks: types before flags, FIXED before VALIDATED, the first named frame before the second.
 -- Only promises of private functions name these. The public gates promise the rules' own chains.
+use mathlib.Core.Bool.{Bool}
 use Prim.Native.Nat.{ℕ}
 use lib.Dec.{eqb}
 use Rattle.words.specs.Choice.{pick, _and_}
 use Rattle.entries.specs.declared.entry.Entry.{Entry}
 use Rattle.rules.specs.Answers.{Verdict, unless}
 use Rattle.rules.specs.Refusals.{TYPE, NOT-VALIDATED, FIXED, NOT-FIXED}
-use Rattle.needs.specs.Needs.{SET, kindMet, flagMet}
+use Rattle.needs.specs.Needs.{SET, needsOf, kindMet, flagMet}
 use Rattle.needs.specs.declared.table.Need.{Need}
 use Rattle.needs.specs.declared.table.Row.{Row}
 
@@ -26,3 +27,7 @@ unfoldable pub pagesNeeded : Row → Entry → Entry → Verdict → Verdict
 pagesNeeded row one two rest =
     unless (kindMet (row .0 .0) (one .kind) 0 and kindMet (row .1 .0) (two .kind) 0) TYPE
     (flagsNeeded (row .0) one (flagsNeeded (row .1) two rest))
+
+-- READ needs the seventh row of the table, WRITE the eighth
+unfoldable pub accessNeed : Bool → Need
+accessNeed writes = needsOf (pick writes 7 6) .0

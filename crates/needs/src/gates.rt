@@ -2,15 +2,14 @@
 // them.
 ghost use mathlib.Core.Path.{_≡_};
 ghost use lib.Dec.{eqb};
-ghost use Rattle.words.specs.Choice.{pick, _and_};
+ghost use Rattle.words.specs.Choice.{_and_};
 ghost use Rattle.entries.specs.Entry.{SHARED, MERGEABLE, LEAF};
 ghost use Rattle.rules.specs.Access.{unfixedAccess};
 ghost use Rattle.rules.specs.Answers.{Verdict, unless, when};
 ghost use Rattle.rules.specs.Refusals.{TYPE, OWNER, ADDRESS, NOT-VALIDATED, FIXED, NOT-FIXED};
 ghost use Rattle.checks.specs.Answer.{number};
 ghost use Rattle.checks.specs.Gate.{past};
-ghost use Rattle.needs.specs.Needed.{fixedRefusal, flagsNeeded, pageNeeded, pagesNeeded};
-ghost use Rattle.needs.specs.Needs.{need, AS-CALLED, SET, CLEAR, EITHER};
+ghost use Rattle.needs.specs.Needed.{fixedRefusal, flagsNeeded, pageNeeded, pagesNeeded, accessNeed};
 use crate::table;
 use crate::table::Need;
 use crate::table::Row;
@@ -129,7 +128,7 @@ fn fixed_refusal(need: u64) -> Refusal
 
 // What WRITE needs, or READ.
 fn access_need(writes: bool) -> Need
-    ensures { λ r. ⌜ r ≡ need AS-CALLED SET (pick writes CLEAR EITHER) ⌝ }
+    ensures { λ r. ⌜ r ≡ accessNeed writes ⌝ }
 {
     if writes {
         let row = needs(table::WRITE);
@@ -161,14 +160,16 @@ pub fn fixed_access(writes: bool) -> Gate
     )
 }
 
-// READ and WRITE of a page that is not fixed: 7, 8, 9.
+// READ and WRITE of a page that is not fixed: 7, 8, 9. FIXED is looked at here too, as clear, so that a row that needs it set is refused.
 pub fn unfixed_access(writes: bool, page: Entry, caller: u64, gpa: u64) -> Gate
     ensures { λ g. ⌜ ((v : Verdict) → past g v ≡ unfixedAccess caller gpa page v) ⌝ }
 {
+    let need = access_need(writes);
+    let unfixed = go_on(need.fixed_met(false), Refusal::NotFixed, Gate::Open);
     let opened = go_on(
-        access_need(writes).validated_met(page.validated),
+        need.validated_met(page.validated),
         Refusal::NotValidated,
-        Gate::Open,
+        unfixed,
     );
     let there = go_on(page.address == gpa, Refusal::Address, opened);
     go_on(page.asid == caller, Refusal::Owner, there)

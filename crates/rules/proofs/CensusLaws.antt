@@ -1,8 +1,9 @@
--- A census in a sound state answers how many places the guest has, since no frame fails; these are its places at all addresses together,
--- since a place is at one address; and no guest has more of them than the table has frames, since a frame is one place or none.
+-- A census that is answered, on any table and memory, is how many places the guest has, since no frame failed; these are its places at all
+-- addresses together, since a place is at one address; and no guest has more of them than the table has frames, since a frame is one place
+-- or none. In a sound state it is answered, since no frame fails.
 -- Assumes nothing.
 use mathlib.Core.Path.{_≡_, refl, sym, _∙_}
-use mathlib.Core.Bool.{true, false}
+use mathlib.Core.Bool.{true, false, false≢true}
 use Prim.Native.Nat.{ℕ, zero, suc, _+_, _≤_, _<_}
 use native.Mathlib.Nat.{le-refl}
 use native.Mathlib.Omega.{arith}
@@ -14,13 +15,16 @@ use Rattle.entries.specs.Entry.{isGuest, isAddress}
 use Rattle.entries.proofs.LeafLaws.{address-small}
 use Rattle.entries.proofs.Tells.{false-not-true}
 use Rattle.rules.specs.Answers.{count, outcome, settle, unless}
-use Rattle.rules.specs.Balance.{sum, overAddresses}
-use Rattle.rules.specs.Census.{Holding, holds, nothing, fails, holding, placeIn, places, total, counted, tally, reported, census}
+use Rattle.rules.specs.Balance.{sum, overAddresses, CensusSays, CensusCounts}
+use Rattle.rules.specs.Calls.{step}
+use Rattle.rules.specs.Census.{Holding, holds, nothing, fails, holding, placeIn, places, Tally, total, stopped, counted, tally}
+use Rattle.rules.specs.Census.{reported, census}
 use Rattle.rules.specs.State.{State, N, sized}
 use Rattle.rules.proofs.Holdings.{holding-address}
 use Rattle.rules.proofs.Never.{sound-faultless}
+use Rattle.rules.proofs.Passed.{census-cases}
 use Rattle.rules.proofs.PlaceLaws.{places-are, unplaced}
-use Rattle.rules.proofs.Reason.{holding-fails}
+use Rattle.rules.proofs.Reason.{tally-stops}
 use Rattle.rules.proofs.Sound.{Sound}
 use Rattle.rules.proofs.Sums.{sum-same, sum-none, sum-single, sum-swap, sum-most}
 
@@ -40,28 +44,41 @@ one-most (holds gpa) = omega arith
 one-most nothing = omega arith
 one-most (fails number) = omega arith
 
-pub census-bounded : (s : State) (guest : ℕ) → held s guest ≤ N s
+held-most : (s : State) (guest : ℕ) → held s guest ≤ N s
 unfolding held
-census-bounded s guest = sum-most _ (N s) (λ f. one-most (holding s guest f))
+held-most s guest = sum-most _ (N s) (λ f. one-most (holding s guest f))
 
--- ---- what a census answers
-counted-total :
-    (m : ℕ) (h : Holding) → ((n : ℕ) → h ≡ fails n → ⊥) → counted (total m) h ≡ total (m + one h)
+-- ---- a tally that was not stopped
+counted-total : (t : Tally) (h : Holding) (n : ℕ) → counted t h ≡ total n → (m : ℕ) × (t ≡ total m) × (n ≡ m + one h)
 unfolding counted one
-counted-total m (holds gpa) never = refl
-counted-total m nothing never = let same : m + 0 ≡ m = omega arith in rw same
-counted-total m (fails number) never = absurd (never number refl)
+counted-total (total m) (holds gpa) n e = (m, refl, cc)
+counted-total (total m) nothing n e = let same : m ≡ n = cc in (m, refl, omega arith)
+counted-total (total m) (fails number) n e = absurd (false≢true (cc))
+counted-total (stopped number) h n e = absurd (false≢true (cc))
 
+tally-total : (s : State) (guest k n : ℕ) → tally s guest k ≡ total n → n ≡ sum (λ f. one (holding s guest f)) k
+unfolding tally sum
+tally-total s guest zero n e = cc
+tally-total s guest (suc k) n e =
+    let last = counted-total (tally s guest k) (holding s guest k) n e in
+    rw (← (tally-total s guest k (last .0) (last .1))) (last .2)
+
+pub tally-held : (s : State) (guest n : ℕ) → tally s guest (N s) ≡ total n → n ≡ held s guest
+unfolding held
+tally-held s guest = tally-total s guest (N s)
+
+-- ---- in a sound state it is not stopped
 module _ (s : State) (sound : Sound s) (guest : ℕ) where
-  tally-total : (k : ℕ) → k ≤ N s → tally s guest k ≡ total (sum (λ f. one (holding s guest f)) k)
-  unfolding tally sum
-  tally-total zero below = refl
-  tally-total (suc k) below =
-      rw (tally-total k (omega arith)) (counted-total _ _ (λ n h. sound-faultless sound (holding-fails s n guest k below h)))
+  tally-sound : tally s guest (N s) ≡ total (held s guest)
+  tally-sound = go (tally s guest (N s)) refl
+    where
+      go : (t : Tally) → tally s guest (N s) ≡ t → t ≡ total (held s guest)
+      go (total n) e = rw (tally-held s guest n e)
+      go (stopped n) e = absurd (sound-faultless sound (tally-stops s n guest (N s) (le-refl _) e))
 
   pub census-answered : sized s ≡ true → isGuest guest ≡ true → census s guest ≡ outcome (count (held s guest)) s
-  unfolding census settle unless reported held pick
-  census-answered size is-guest = rw (size, is-guest, tally-total (N s) (le-refl _))
+  unfolding census settle unless reported pick
+  census-answered size is-guest = rw (size, is-guest, tally-sound)
 
 -- ---- the places at all addresses together
 pub no-place : (s : State) (guest gpa : ℕ) → isAddress gpa ≡ false → places s guest gpa ≡ 0
@@ -91,3 +108,17 @@ places-below s guest b below =
 pub places-together : (s : State) (guest : ℕ) → overAddresses (places s guest) ≡ held s guest
 unfolding overAddresses
 places-together s guest = places-below s guest _ (λ f gpa h. address-small gpa (holding-address s guest gpa f h))
+
+-- ---- what an answered census says
+pub census-counts : CensusCounts
+unfolding step
+census-counts s guest n =
+    census-cases (λ o. o .told ≡ count n → CensusSays s guest n) s (λ m why h. absurd (false≢true (cc))) guest
+    (λ m passed h.
+    let answer : m ≡ n = cc in
+    let is-held = rw answer at (tally-held s guest m (passed .sum)) in
+    record {
+      counts = rw (places-together s guest) is-held;
+      bounded = rw is-held (held-most s guest);
+      nowhere-else = no-place s guest;
+    })

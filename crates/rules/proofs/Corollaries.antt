@@ -16,7 +16,7 @@ use Rattle.rules.specs.History.{Made, history, finally, Event, opens, cl
 use Rattle.rules.specs.History.{isClosing, openings, closings, lastWrite, NoCounterGoesBack}
 use Rattle.rules.specs.Refusals.{BAD-ENTRY, BROKEN-LEAF}
 use Rattle.rules.specs.State.{State, emptyTable, wordAt}
-use Rattle.rules.proofs.CensusLaws.{census-bounded, census-answered, no-place, places-together}
+use Rattle.rules.proofs.CensusLaws.{census-answered, no-place, places-together}
 use Rattle.rules.proofs.History.{empty-sound, no-counter-goes-back}
 use Rattle.rules.proofs.HistoryFrom.{finally-sound}
 use Rattle.rules.proofs.HistoryLists.{cut, Opened, opening-there, bit-most}
@@ -76,11 +76,8 @@ census-kept length memory calls guest size g =
     let whole = places-together end guest in
     record {
       answered = rw whole (census-answered end sound guest (sizes-stay start calls .same-sized ∙ size) g);
-      bounded = rw whole (census-bounded end guest);
       balanced = sum-add _ _ _ _ (λ gpa. no-counter-goes-back length memory calls .counted guest gpa g);
-      nowhere-else = λ gpa none.
-          let events = no-events start calls guest gpa (empty-sound length memory) g none in
-          (no-place end guest gpa none, events .0, events .1);
+      nowhere-else = λ gpa. no-events start calls guest gpa (empty-sound length memory) g;
     }
 
 -- ---- what a read returns, at an address that was opened at most once before it

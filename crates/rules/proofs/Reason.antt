@@ -54,7 +54,7 @@ module _ (s : State) (n : ℕ) where
       (pick-fails _ _ _ (λ valid u. absurd (false≢true (cc))) (λ u. absurd (false≢true (cc)))) h
   entry-fails guest f inside Bad here h = let same : BAD-ENTRY ≡ n = cc in rw same at (bad-entry f inside here)
 
-  pub holding-fails : (guest f : ℕ) → f < N s → holding s guest f ≡ fails n → Fault s n
+  holding-fails : (guest f : ℕ) → f < N s → holding s guest f ≡ fails n → Fault s n
   unfolding holding
   holding-fails guest f inside = entry-fails guest f inside _ refl
 

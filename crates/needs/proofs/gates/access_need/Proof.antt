@@ -2,7 +2,7 @@
 -- Assumes nothing.
 use borrow.Author.Needs.{needs}
 use Rattle.words.specs.Choice.{pick}
-use Rattle.needs.specs.Needs.{needsOf, needsTable}
+use Rattle.needs.specs.Needed.{accessNeed}
 use Rattle.needs.proofs.gates.access_need.Statement.{statement}
 use Rattle.needs.proofs.gates.access_need.Tie as tie
 
@@ -10,14 +10,14 @@ needs-requires : tie.Need-needs-requires
 needs-requires c κs = search needs
 
 returns : tie.Need-returns
-unfolding needsOf needsTable pick
+unfolding accessNeed pick
 returns c = rw (c .before .before .if1 .taken, c .before .needs .ensures)
 
 needs-requires-2 : tie.Need-needs-requires-2
 needs-requires-2 c κs = search needs
 
 returns-2 : tie.Need-returns-2
-unfolding needsOf needsTable pick
+unfolding accessNeed pick
 returns-2 c = rw (c .before .before .if1 .left, c .before .needs2 .ensures)
 
 pub access-need-spec : {M : Type 1} → statement M

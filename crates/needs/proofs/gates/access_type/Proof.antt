@@ -4,6 +4,7 @@ use borrow.Author.Needs.{needs}
 use Rattle.words.specs.Choice.{pick}
 use Rattle.checks.specs.Gate.{past}
 use Rattle.needs.specs.Needs.{kindMet}
+use Rattle.needs.proofs.AccessNeeds.{kind-called}
 use Rattle.needs.proofs.gates.access_type.Statement.{statement}
 use Rattle.needs.proofs.gates.access_type.Tie as tie
 
@@ -18,7 +19,7 @@ go-on-requires c κs = search needs
 
 returns : tie.Need-returns
 unfolding past kindMet pick
-returns c = λ v. rw (c .go-on .ensures v, c .before .kind-met .ensures, c .before .before .access-need .ensures)
+returns c = λ v. rw (c .go-on .ensures v, c .before .kind-met .ensures, c .before .before .access-need .ensures, kind-called)
 
 pub access-type-spec : {M : Type 1} → statement M
 access-type-spec =

@@ -1,12 +1,9 @@
 -- `needs::gates::fixed_access` meets its contract: WRITE needs FIXED clear, and READ does not ask.
 -- Assumes nothing.
-use mathlib.Core.Path.{_≡_, refl}
-use mathlib.Core.Bool.{Bool, true, false, not}
 use borrow.Author.Needs.{needs}
-use Rattle.words.specs.Choice.{pick}
 use Rattle.rules.specs.Answers.{when}
 use Rattle.checks.specs.Gate.{past}
-use Rattle.needs.specs.Needs.{flagMet, CLEAR, EITHER}
+use Rattle.needs.proofs.AccessNeeds.{fixed-meets}
 use Rattle.needs.proofs.gates.fixed_access.Statement.{statement}
 use Rattle.needs.proofs.gates.fixed_access.Tie as tie
 
@@ -19,14 +16,9 @@ fixed-met-requires c κs = search needs
 go-on-requires : tie.Need-go-on-requires
 go-on-requires c κs = search needs
 
-by-row : (writes : Bool) → flagMet (pick writes CLEAR EITHER) true ≡ not writes
-unfolding flagMet pick
-by-row true = refl
-by-row false = refl
-
 returns : tie.Need-returns
 unfolding past when
-returns c = λ v. rw (c .go-on .ensures v, c .before .fixed-met .ensures, c .before .before .access-need .ensures, by-row _)
+returns c = λ v. rw (c .go-on .ensures v, c .before .fixed-met .ensures, c .before .before .access-need .ensures, fixed-meets)
 
 pub fixed-access-spec : {M : Type 1} → statement M
 fixed-access-spec =

@@ -1,0 +1,2 @@
+-- Laws of the table's rows.
+pub mod AccessNeeds
