@@ -1,3 +1,2 @@
--- Laws that the proofs of this crate cite, and that a run of the library is a run of the rules.
+-- Laws that the proofs of this crate cite.
 pub mod Carried
-pub mod Runs

@@ -6,8 +6,8 @@ use Prim.Native.Nat.{ℕ}
 use lib.Dec.{eqb}
 use Rattle.words.specs.Choice.{pick}
 use Rattle.rules.specs.Answers.{Told, refused, done, none, closed, opened, already, word, count, Outcome}
-use Rattle.rules.specs.Calls.{Call, step}
-use Rattle.rules.specs.Run.{Turn, Promised}
+use Rattle.rules.specs.Calls.{Call}
+use Rattle.rules.specs.Run.{Turn}
 use Rattle.rules.specs.State.{State, state}
 use Rattle.ffi.specs.declared.answer.Flat.{Flat}
 
@@ -76,11 +76,6 @@ says r =
 abbrev pub FlatSays : Type 0
 FlatSays = (told : Told) → says (flat told) ≡ told
 
--- So what an exported function returns is a turn of a run, and what is said of runs, demand 3 among it, is said of runs of the library.
+-- a call of an exported function as a turn of a run: with what its returned answer says, and table and memory as it left them
 abbrev pub turn : Call → Flat → List ℕ → List ℕ → Turn
 turn call r table memory = record { call = call; told = says r; left = state table memory }
-
-abbrev pub LibraryRuns : Type 0
-LibraryRuns =
-    (s : State) (call : Call) (r : Flat) (table memory : List ℕ)
-    → returned r table memory ≡ flattened (step s call) → Promised s (turn call r table memory)

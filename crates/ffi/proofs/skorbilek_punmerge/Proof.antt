@@ -1,6 +1,7 @@
--- `ffi::skorbilek_punmerge` meets its contract: the call's own promise, carried through the flattening of its answer.
+-- `ffi::skorbilek_punmerge` meets its contract: the call's own promise, carried through the flattening of its answer, which makes a turn of a run.
 -- Assumes nothing.
 use borrow.Author.Needs.{needs}
+use Rattle.rules.specs.Calls.{step}
 use Rattle.ffi.proofs.Carried.{carried}
 use Rattle.ffi.proofs.skorbilek_punmerge.Statement.{statement}
 use Rattle.ffi.proofs.skorbilek_punmerge.Tie as tie
@@ -18,6 +19,7 @@ same-length-2 : tie.Need-same-length-2
 same-length-2 c = search needs
 
 returns : tie.Need-returns
+unfolding step
 returns c = carried (c .before .before .before .before .before .punmerge .ensures) (c .flatten .ensures)
 
 pub skorbilek-punmerge-spec : {M : Type 1} → statement M

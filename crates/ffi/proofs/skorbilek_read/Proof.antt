@@ -1,6 +1,7 @@
--- `ffi::skorbilek_read` meets its contract: the call's own promise, carried through the flattening of its answer.
+-- `ffi::skorbilek_read` meets its contract: the call's own promise, carried through the flattening of its answer, which makes a turn of a run.
 -- Assumes nothing.
 use borrow.Author.Needs.{needs}
+use Rattle.rules.specs.Calls.{step}
 use Rattle.ffi.proofs.Carried.{carried}
 use Rattle.ffi.proofs.skorbilek_read.Statement.{statement}
 use Rattle.ffi.proofs.skorbilek_read.Tie as tie
@@ -12,6 +13,7 @@ flatten-requires : tie.Need-flatten-requires
 flatten-requires c κs = search needs
 
 returns : tie.Need-returns
+unfolding step
 returns c = carried (c .before .read .ensures) (c .flatten .ensures)
 
 pub skorbilek-read-spec : {M : Type 1} → statement M

@@ -1,6 +1,7 @@
--- `ffi::skorbilek_write` meets its contract: the call's own promise, carried through the flattening of its answer.
+-- `ffi::skorbilek_write` meets its contract: the call's own promise, carried through the flattening of its answer, which makes a turn of a run.
 -- Assumes nothing.
 use borrow.Author.Needs.{needs}
+use Rattle.rules.specs.Calls.{step}
 use Rattle.ffi.proofs.Carried.{carried}
 use Rattle.ffi.proofs.skorbilek_write.Statement.{statement}
 use Rattle.ffi.proofs.skorbilek_write.Tie as tie
@@ -15,6 +16,7 @@ same-length : tie.Need-same-length
 same-length c = search needs
 
 returns : tie.Need-returns
+unfolding step
 returns c = carried (c .before .before .before .write .ensures) (c .flatten .ensures)
 
 pub skorbilek-write-spec : {M : Type 1} → statement M
