@@ -6,7 +6,7 @@ use crate::monitors::{accepted, frame, words, Planted};
 
 const FIXED: u64 = 1 << 19;
 
-pub const FAULTS: [Planted; 23] = [
+pub const FAULTS: [Planted; 26] = [
     Planted {
         name: "PMERGE overwrites a leaf word (14 is skipped)",
         make: |call, table, memory| match (call.make(table, memory), *call) {
@@ -59,6 +59,51 @@ pub const FAULTS: [Planted; 23] = [
                 if table[2 * frame(hpa)] & FIXED != 0 =>
             {
                 Answer::Word(memory[words(hpa).start + index as usize])
+            }
+            (answer, _) => answer,
+        },
+    },
+    Planted {
+        name: "an access to an unfixed page does not check the address (8)",
+        make: |call, table, memory| match (call.make(table, memory), *call) {
+            #[rustfmt::skip]
+            (Answer::Refused(8), Call::Read { caller, hpa, gtype, ntype, index, .. })
+                if table[2 * frame(hpa)] & FIXED == 0 =>
+            {
+                let gpa = table[2 * frame(hpa) + 1];
+                Call::Read { caller, gpa, hpa, gtype, ntype, index }.make(table, memory)
+            }
+            #[rustfmt::skip]
+            (Answer::Refused(8), Call::Write { caller, hpa, gtype, ntype, index, value, .. }) => {
+                let gpa = table[2 * frame(hpa) + 1];
+                Call::Write { caller, gpa, hpa, gtype, ntype, index, value }.make(table, memory)
+            }
+            (answer, _) => answer,
+        },
+    },
+    Planted {
+        name: "PVALIDATE does not check the address (8)",
+        make: |call, table, memory| match (call.make(table, memory), *call) {
+            #[rustfmt::skip]
+            (Answer::Refused(8), Call::Pvalidate { caller, hpa, kind, .. }) => {
+                let gpa = table[2 * frame(hpa) + 1];
+                Call::Pvalidate { caller, gpa, hpa, kind }.make(table, memory)
+            }
+            (answer, _) => answer,
+        },
+    },
+    Planted {
+        name: "PFIX gives a fixed page another leaf (10 is skipped)",
+        make: |call, table, memory| match (call.make(table, memory), *call) {
+            (Answer::Refused(10), Call::Pfix { hpa, leaf, .. }) => {
+                let entry = 2 * frame(hpa);
+                let answer = accepted(call, table, memory, |table, _| {
+                    // its own leaf is in use
+                    if table[entry + 1] != leaf {
+                        table[entry] &= !FIXED;
+                    }
+                });
+                answer.unwrap_or(Answer::Refused(15))
             }
             (answer, _) => answer,
         },
