@@ -1,11 +1,15 @@
 //! The table of wrong rules in docs/PROMISES.md.
 
+use second::script::MEMORY_FRAMES;
+
 const HEAD: &str = "| Edit: the wrong rule | Calls | What is then false |\n|---|---|---|\n";
 const P_IS: &str = "P stands for the four calls ";
+const FRAMES_ARE: &str = "with M = ";
 
-/// A wrong rule, the calls that show it, and the name of what is then false.
+/// A wrong rule, the calls that show it in a memory of so many frames, and the name of what is then false.
 pub struct Row {
     pub name: String,
+    pub frames: usize,
     pub calls: Vec<String>,
     pub broken: String,
 }
@@ -40,11 +44,22 @@ fn row(line: &str, p: &[String]) -> Row {
     let named = edit.strip_prefix('`').and_then(|it| it.split_once("`: "));
     let (name, _) = named.unwrap_or_else(|| panic!("no name and rule: {line}"));
     let broken = what.split_once(':').map_or(what, |(name, _)| name);
+    let (frames, list) = frames(list);
     Row {
         name: name.to_owned(),
+        frames,
         calls: calls(list, p),
         broken: broken.to_owned(),
     }
+}
+
+/// The frames of memory, which are the script's where a cell names no others; and the list.
+fn frames(cell: &str) -> (usize, &str) {
+    let Some(named) = cell.strip_prefix(FRAMES_ARE) else {
+        return (MEMORY_FRAMES, cell);
+    };
+    let (number, list) = named.split_once(": ").expect("a colon before the calls");
+    (number.parse().expect("a number of frames"), list)
 }
 
 /// The calls of a list, in which the four may be written P.

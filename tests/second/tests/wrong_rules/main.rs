@@ -58,14 +58,14 @@ fn hold(row: &Row, breaks: &[String]) -> Result<(), String> {
 /// Runs the lists of a row on the right second program and on the wrong one.
 fn check(row: &Row) -> Result<(), String> {
     let lists = lists(&row.calls);
-    let right = history::first_break(lists[0].iter().copied());
+    let right = history::first_break(row.frames, lists[0].iter().copied());
     if !right.is_empty() {
         return Err(format!("the right program: {right}"));
     }
     let text = fs::read_to_string(format!("{WRONG}/{}.edit", row.name));
     let edits = edit::parse(&text.map_err(|error| error.to_string())?)?;
     let wrong = Program::build(&row.name, &edits)?;
-    hold(row, &wrong.first_breaks(&lists)?)
+    hold(row, &wrong.first_breaks(row.frames, &lists)?)
 }
 
 /// What is wrong with the rows, looked at by two threads.
@@ -112,6 +112,7 @@ fn each_edit_of_the_rules_is_named() {
 fn what_a_row_does_not_say_is_told() {
     let row = Row {
         name: "two-calls".to_owned(),
+        frames: 10,
         calls: ["C 1", "C 2"].map(String::from).to_vec(),
         broken: "kept".to_owned(),
     };

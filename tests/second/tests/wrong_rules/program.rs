@@ -11,13 +11,16 @@ use crate::edit::Edit;
 const SOURCE: &str = concat!(env!("CARGO_MANIFEST_DIR"), "/src");
 const TEMPORARY: &str = concat!(env!("CARGO_TARGET_TMPDIR"), "/wrong_rules");
 
-/// What follows the text of `lib.rs` in the program: each argument is a list, a call to a line, and gets a line of output.
+/// What follows the text of `lib.rs` in the program: the first argument is how many frames memory has, and each other a list, a call to a
+/// line, which gets a line of output.
 const MAIN: &str = r#"
 extern crate self as second;
 mod history;
 fn main() {
-    for list in std::env::args().skip(1) {
-        println!("{}", history::first_break(list.lines()));
+    let mut arguments = std::env::args().skip(1);
+    let frames = arguments.next().unwrap().parse().unwrap();
+    for list in arguments {
+        println!("{}", history::first_break(frames, list.lines()));
     }
 }
 "#;
@@ -41,9 +44,9 @@ impl Program {
     }
 
     /// The first break of each list.
-    pub fn first_breaks(&self, lists: &[Vec<&str>]) -> Result<Vec<String>, String> {
-        let arguments = lists.iter().map(|calls| calls.join("\n"));
-        let printed = said(Command::new(&self.0).args(arguments))?;
+    pub fn first_breaks(&self, frames: usize, lists: &[Vec<&str>]) -> Result<Vec<String>, String> {
+        let lines = lists.iter().map(|calls| calls.join("\n"));
+        let printed = said(Command::new(&self.0).arg(frames.to_string()).args(lines))?;
         let breaks: Vec<String> = printed.lines().map(str::to_owned).collect();
         assert_eq!(breaks.len(), lists.len(), "a line for each list");
         Ok(breaks)
