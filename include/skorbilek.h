@@ -73,7 +73,7 @@ enum {
     SKORBILEK_REFUSAL_STILL_SHARED = 17   /* another guest than the owner is left in the leaf */
 };
 
-/* An answer. A field that its kind does not fill is 0. */
+/* An answer. A field that its kind does not fill is 0. A call was accepted where `kind != SKORBILEK_REFUSED`. */
 typedef struct skorbilek_answer {
     uint64_t refusal; /* the refusal's number, 1 to 17; 0 if the call was accepted */
     uint64_t kind;    /* SKORBILEK_REFUSED .. SKORBILEK_COUNT */

@@ -32,7 +32,7 @@ static uint64_t last_number = 0;
 /* Prints what was tried and what was answered, and compares it with the refusal that the rules give (0: accepted). */
 static void expect(uint64_t refusal, const char *what, skorbilek_answer answer)
 {
-    if (answer.refusal == 0)
+    if (answer.kind != SKORBILEK_REFUSED)
         printf("  %-62s accepted\n", what);
     else
         printf("  %-62s refused with %" PRIu64 "\n", what, answer.refusal);
