@@ -165,12 +165,12 @@ pub fn unfixed_access(writes: bool, page: Entry, caller: u64, gpa: u64) -> Gate
     ensures { λ g. ⌜ ((v : Verdict) → past g v ≡ unfixedAccess caller gpa page v) ⌝ }
 {
     let need = access_need(writes);
-    let unfixed = go_on(need.fixed_met(false), Refusal::NotFixed, Gate::Open);
     let opened = go_on(
         need.validated_met(page.validated),
         Refusal::NotValidated,
-        unfixed,
+        Gate::Open,
     );
     let there = go_on(page.address == gpa, Refusal::Address, opened);
-    go_on(page.asid == caller, Refusal::Owner, there)
+    let owned = go_on(page.asid == caller, Refusal::Owner, there);
+    go_on(need.fixed_met(false), Refusal::NotFixed, owned)
 }
