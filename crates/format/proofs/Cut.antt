@@ -1,17 +1,18 @@
--- Where a text is cut: what stands before the cut is whole, and what stands after it has no line feed. By induction on the bytes that are
--- looked at.
+-- Where a text is cut: what stands before the cut is whole, and what stands after it has no line feed; and where two texts are cut that
+-- stand one behind the other. By induction on the bytes that are looked at.
 -- Assumes nothing.
-use mathlib.Core.Path.{_≡_}
-use mathlib.Core.List.{List}
+use mathlib.Core.Path.{_≡_, refl, sym, ap, _∙_}
+use mathlib.Core.List.{List, [], _++_}
 use mathlib.Core.Logic.{_≢_, ⊎-elim}
 use Prim.Native.Nat.{ℕ, zero, suc, _+_, _≤_, _<_}
 use native.Mathlib.Decide.{ℕ-discrete}
+use native.Mathlib.Nat.{add-zero, add-suc}
 use native.Mathlib.Omega.{arith}
-use lib.ListN.{length, getD, take, drop, length-drop}
-use lib.Seq.{take-suc, getD-drop}
+use lib.ListN.{length, getD, take, drop, length-append, length-take, length-drop, List·getD-append}
+use lib.Seq.{take-suc, take-append-le, take-append-add, getD-take, getD-drop, getD-append-add}
 use borrow.Author.Tests.{eq-eqb, ne-eqb}
 use Rattle.words.proofs.ChoiceLaws.{same-or-not, pick-true, pick-false}
-use Rattle.format.specs.Piece.{cut, wholeLines}
+use Rattle.format.specs.Piece.{cut, wholeLines, unfinished}
 use Rattle.format.specs.Text.{LF}
 use Rattle.format.proofs.Lines.{Whole, whole-empty, whole-fed}
 use Rattle.format.proofs.Without.{Without, without-places}
@@ -65,3 +66,58 @@ rest-unfed text =
     let at = cut text (length text) in
     without-places LF (drop at text)
     (λ i h. rw (getD-drop at text i 0) (cut-places text (length text) (at + i) (omega arith) (omega (arith, length-drop at text))))
+
+-- in an unfinished line there is no place to cut
+cut-none : (text : List ℕ) (count : ℕ) → ((i : ℕ) → i < count → getD text i 0 ≢ LF) → cut text count ≡ 0
+unfolding cut
+cut-none text zero none = refl
+cut-none text (suc count) none = cut-before text count (none count (omega arith)) ∙ cut-none text count (λ i h. none i (omega arith))
+
+pub unfinished-unfed : (text : List ℕ) → wholeLines (unfinished text) ≡ []
+unfolding wholeLines unfinished
+unfinished-unfed text =
+    let at = cut text (length text) in
+    let rest = drop at text in
+    let left = length-drop at text in
+    let few = length-take 121 rest in
+    rw (cut-none (take 121 rest) (length (take 121 rest))
+    (λ i h. rw (getD-take 121 rest i 0 (omega arith), getD-drop at text i 0)
+    (cut-places text (length text) (at + i) (omega arith) (omega arith))))
+
+-- ---- a text behind another: the last line feed is in the second, or, where that has none, in the first
+module _ (a b : List ℕ) where
+  cut-front : (count : ℕ) → count ≤ length a → cut (a ++ b) count ≡ cut a count
+  unfolding cut
+  cut-front zero h = refl
+  cut-front (suc count) h = rw (List·getD-append a b 0 count h, cut-front count (omega arith))
+
+  fed-behind : (n : ℕ) → getD b n 0 ≡ LF → cut (a ++ b) (length a + suc n) ≡ length a + suc n
+  fed-behind n e = rw add-suc (cut-here (a ++ b) (length a + n) (getD-append-add a b n 0 ∙ e))
+
+  unfed-behind : (n : ℕ) → getD b n 0 ≢ LF → cut (a ++ b) (length a + suc n) ≡ cut (a ++ b) (length a + n)
+  unfed-behind n e = rw add-suc (cut-before (a ++ b) (length a + n) (rw (getD-append-add a b n 0) e))
+
+  cut-first : (n : ℕ) → cut b n ≡ 0 → cut (a ++ b) (length a + n) ≡ cut a (length a)
+  cut-first zero h = rw add-zero (cut-front (length a) (omega arith))
+  cut-first (suc n) h =
+      ⊎-elim
+      (λ e. let z : ⊥ = omega (arith, cut-here b n e) in absurd z)
+      (λ e. unfed-behind n e ∙ cut-first n (sym (cut-before b n e) ∙ h))
+      (same-or-not (getD b n 0) LF)
+
+  cut-second : (n : ℕ) → 0 < cut b n → cut (a ++ b) (length a + n) ≡ length a + cut b n
+  cut-second zero h = let z : ⊥ = omega (arith, cut-most b 0) in absurd z
+  cut-second (suc n) h =
+      ⊎-elim
+      (λ e. rw (cut-here b n e) (fed-behind n e))
+      (λ e. let same = cut-before b n e in rw same (unfed-behind n e ∙ cut-second n (omega arith)))
+      (same-or-not (getD b n 0) LF)
+
+  pub whole-first : cut b (length b) ≡ 0 → wholeLines (a ++ b) ≡ wholeLines a
+  unfolding wholeLines
+  whole-first h =
+      rw (length-append a b, cut-first (length b) h) (take-append-le (cut a (length a)) a b (cut-most a (length a)))
+
+  pub whole-second : 0 < cut b (length b) → wholeLines (a ++ b) ≡ a ++ wholeLines b
+  unfolding wholeLines
+  whole-second h = rw (length-append a b, cut-second (length b) h) (take-append-add a b (cut b (length b)))

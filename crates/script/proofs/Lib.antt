@@ -2,4 +2,3 @@
 pub mod AllPrinted
 pub mod PrintedKeeps
 pub mod StreamLaws
-pub mod StreamPrints

@@ -1,3 +1,2 @@
--- What is claimed of the bytes that a script prints, whole or read in pieces.
+-- What is claimed of the bytes that a script prints.
 pub mod Printed
-pub mod Stream
