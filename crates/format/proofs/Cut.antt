@@ -1,7 +1,7 @@
 -- Where a text is cut: what stands before the cut is whole, and what stands after it has no line feed; and where two texts are cut that
 -- stand one behind the other. By induction on the bytes that are looked at.
 -- Assumes nothing.
-use mathlib.Core.Path.{_≡_, refl, sym, ap, _∙_}
+use mathlib.Core.Path.{_≡_, refl, sym, _∙_}
 use mathlib.Core.List.{List, [], _++_}
 use mathlib.Core.Logic.{_≢_, ⊎-elim}
 use Prim.Native.Nat.{ℕ, zero, suc, _+_, _≤_, _<_}
@@ -12,7 +12,7 @@ use lib.ListN.{length, getD, take, drop, length-append, length-take, length-drop
 use lib.Seq.{take-suc, take-append-le, take-append-add, getD-take, getD-drop, getD-append-add}
 use borrow.Author.Tests.{eq-eqb, ne-eqb}
 use Rattle.words.proofs.ChoiceLaws.{same-or-not, pick-true, pick-false}
-use Rattle.format.specs.Piece.{cut, wholeLines, unfinished}
+use Rattle.format.specs.Piece.{cut, wholeLines}
 use Rattle.format.specs.Text.{LF}
 use Rattle.format.proofs.Lines.{Whole, whole-empty, whole-fed}
 use Rattle.format.proofs.Without.{Without, without-places}
@@ -67,22 +67,23 @@ rest-unfed text =
     without-places LF (drop at text)
     (λ i h. rw (getD-drop at text i 0) (cut-places text (length text) (at + i) (omega arith) (omega (arith, length-drop at text))))
 
--- in an unfinished line there is no place to cut
+-- so that there is no place to cut in it
 cut-none : (text : List ℕ) (count : ℕ) → ((i : ℕ) → i < count → getD text i 0 ≢ LF) → cut text count ≡ 0
 unfolding cut
 cut-none text zero none = refl
 cut-none text (suc count) none = cut-before text count (none count (omega arith)) ∙ cut-none text count (λ i h. none i (omega arith))
 
-pub unfinished-unfed : (text : List ℕ) → wholeLines (unfinished text) ≡ []
-unfolding wholeLines unfinished
-unfinished-unfed text =
+pub tail-unfed : (most : ℕ) (text : List ℕ) → wholeLines (take most (drop (cut text (length text)) text)) ≡ []
+unfolding wholeLines
+tail-unfed most text =
     let at = cut text (length text) in
-    let rest = drop at text in
+    let tail = drop at text in
     let left = length-drop at text in
-    let few = length-take 121 rest in
-    rw (cut-none (take 121 rest) (length (take 121 rest))
-    (λ i h. rw (getD-take 121 rest i 0 (omega arith), getD-drop at text i 0)
-    (cut-places text (length text) (at + i) (omega arith) (omega arith))))
+    let few = length-take most tail in
+    let none =
+    cut-none (take most tail) (length (take most tail)) λ i h.
+    rw (getD-take most tail i 0 (omega arith), getD-drop at text i 0) (cut-places text (length text) (at + i) (omega arith) (omega arith)) in
+    rw none
 
 -- ---- a text behind another: the last line feed is in the second, or, where that has none, in the first
 module _ (a b : List ℕ) where

@@ -5,19 +5,18 @@
 use mathlib.Core.Path.{_≡_, refl, sym, ap, _∙_}
 use mathlib.Core.List.{List, [], _∷_, _++_, append-assoc, append-nil}
 use mathlib.Core.Logic.{⊎-elim}
-use Prim.Native.Nat.{ℕ, _<_, _≤_}
+use Prim.Native.Nat.{ℕ}
 use native.Mathlib.Omega.{arith}
 use lib.ListN.{length, take, drop, take-append-drop}
-use Rattle.rules.specs.State.{State}
-use Rattle.rules.specs.State.{emptyTable}
 use Rattle.words.proofs.ChoiceLaws.{lt-or-le}
+use Rattle.rules.specs.State.{State, emptyTable}
 use Rattle.format.specs.Piece.{cut, wholeLines, unfinished, Ending, complete, broken-off, Streamed, ended, stopped, fed}
 use Rattle.format.specs.Piece.{joined, ranOf, StreamPrints, StreamDemand3}
 use Rattle.format.specs.Text.{printed, after}
-use Rattle.format.proofs.Cut.{whole-lines, rest-unfed, unfinished-unfed, whole-first, whole-second}
-use Rattle.format.proofs.TextKeeps.{text-keeps-demand-3}
+use Rattle.format.proofs.Cut.{whole-lines, rest-unfed, tail-unfed, whole-first, whole-second}
 use Rattle.format.proofs.LongLine.{said-cut}
 use Rattle.format.proofs.ResponseLaws.{nothing-printed, nothing-after}
+use Rattle.format.proofs.TextKeeps.{text-keeps-demand-3}
 use Rattle.format.proofs.Texts.{printed-append, after-append, same-printed, same-after}
 
 -- a text, and what follows it: its whole lines, and then the line that it left unfinished
@@ -41,6 +40,10 @@ after-on s text rest =
     let tail = drop (cut text (length text)) text in
     rw (same-after (after s (wholeLines text)) (take 121 tail ++ rest) (tail ++ rest) (said-cut tail rest (rest-unfed text)))
     (ap (after s) (cut-there text rest) ∙ after-append s (wholeLines text) (tail ++ rest) (whole-lines text))
+
+unfinished-unfed : (text : List ℕ) → wholeLines (unfinished text) ≡ []
+unfolding unfinished
+unfinished-unfed text = tail-unfed 121 text
 
 -- and so of what is run of them: where there is no line feed in the rest, nothing of it
 ran-printed :

@@ -1,13 +1,15 @@
 -- `run_script::print` meets its contract: the part that it hands on is as long as it was told.
 -- Assumes nothing.
-use mathlib.Core.Path.{sym}
-use lib.Seq.{length-take-le}
+use native.Mathlib.Omega.{arith}
+use lib.ListN.{length-take}
 use borrow.Author.Needs.{needs}
 use Rattle.run_script.proofs.print.Statement.{statement}
 use Rattle.run_script.proofs.print.Tie as tie
 
 slice-aggregate-part : tie.Need-slice-aggregate-part
-slice-aggregate-part c = sym (length-take-le _ _ (c .before .before .pre))
+slice-aggregate-part c =
+    let x = c .before .before .args in
+    omega (arith, length-take (x .printed) (x .out .now))
 
 write-all-requires : tie.Need-write-all-requires
 write-all-requires c κs = search needs
@@ -19,10 +21,14 @@ write-all-requires-2 : tie.Need-write-all-requires-2
 write-all-requires-2 c κs = search needs
 
 returns : tie.Need-returns
-returns c = length-take-le _ _ (c .before .before .before .before .before .before .pre)
+returns c =
+    let x = c .before .before .before .before .before .before .args in
+    omega (arith, length-take (x .printed) (x .out .now))
 
 returns-2 : tie.Need-returns-2
-returns-2 c = length-take-le _ _ (c .before .before .before .before .pre)
+returns-2 c =
+    let x = c .before .before .before .before .args in
+    omega (arith, length-take (x .printed) (x .out .now))
 
 pub print-spec : {M : Type 1} → statement M
 print-spec =
