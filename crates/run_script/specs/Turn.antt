@@ -30,14 +30,14 @@ pub record PieceRun (n : ℕ) (s : State) (begun : List ℕ) (end : State) (hand
   pub prints : handed ≡ printed s (wholeLines (begun ++ piece))
   pub keeps : kept ≡ unfinished (begun ++ piece)
 
--- The same of any turn, by what was read. At the end of the input the line that was begun is run; where the read failed nothing is. Both
--- are the last turn.
+-- The same of any turn, by what was read, and by whether another turn follows. At the end of the input the line that was begun is run;
+-- where the read failed nothing is. Both are the last turn.
 unfoldable pub Turned : Got → Bool → State → List ℕ → State → List ℕ → List ℕ → Type 0
 Turned (Bytes n) more s begun end handed kept = PieceRun n s begun end handed kept
 Turned End more s begun end handed kept = (more ≡ false) × (end ≡ after s begun) × (handed ≡ printed s begun)
 Turned Failed more s begun end handed kept = (more ≡ false) × (end ≡ s) × (handed ≡ [])
 
--- All turns: some text was read in pieces and run, from table and memory and a line that was begun.
+-- All turns: some text was read in pieces and run, from table and memory and a line that was begun to table and memory at the end.
 pub record Ran (s : State) (begun : List ℕ) (end : State) : Type 0 where
   pub how : Ending
   pub pieces : List (List ℕ)

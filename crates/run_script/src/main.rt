@@ -32,7 +32,7 @@ struct Sent {
 }
 
 // What a turn did: what it read, how many bytes of an unfinished line it kept, how many bytes it handed on to be written, and whether
-// another turn follows.
+// another turn follows. Only the promise needs `got` and `handed`.
 struct Turn {
     got: Got,
     kept: usize,
@@ -111,7 +111,7 @@ fn run_piece(
     }
 }
 
-// Reads once, behind the first `kept` bytes.
+// Reads once, behind the first `kept` bytes. There is room for a byte at least, so that 0 says that the input has ended.
 fn read_behind(text: &mut [u8], kept: usize) -> Got
     requires { ⌜ kept < length (now text) ⌝ }
     ensures { λ r. ⌜ take kept (now (text .exit)) ≡ take kept (now (text .entry)) ⌝ }
@@ -132,7 +132,7 @@ fn read_behind(text: &mut [u8], kept: usize) -> Got
     Got::Bytes(n)
 }
 
-// Hands the first `printed` bytes on to be written.
+// Hands the first `printed` bytes on to be written. What it answers is counted from the part that it hands on.
 fn print(out: &[u8], printed: usize) -> Sent
     requires { ⌜ printed ≤ length (now out) ⌝ }
     ensures { λ r. ⌜ r .handed ≡ printed ⌝ }
