@@ -1,7 +1,7 @@
 -- What the program promises of a turn, and of all its turns, for whatever bytes were read.
 use mathlib.Core.Bool.{Bool, false}
 use mathlib.Core.Path.{_≡_}
-use mathlib.Core.List.{List, [], _++_}
+use mathlib.Core.List.{List, []}
 use Prim.Native.Nat.{ℕ, _≤_, _<_}
 use lib.ListN.{length}
 use Rattle.rules.specs.State.{State}
@@ -21,21 +21,14 @@ count (Bytes n) = n
 count End = 0
 count Failed = 0
 
--- A piece of so many bytes was read behind the line that was begun: table and memory after it, the bytes that were handed on to be
--- written and those that were kept are those of the two together.
-pub record PieceRun (n : ℕ) (s : State) (begun : List ℕ) (end : State) (handed kept : List ℕ) : Type 0 where
-  pub piece : List ℕ
-  pub counted : length piece ≡ n
-  pub left : end ≡ after s (wholeLines (begun ++ piece))
-  pub prints : handed ≡ printed s (wholeLines (begun ++ piece))
-  pub keeps : kept ≡ unfinished (begun ++ piece)
-
--- The same of any turn, by what was read, and by whether another turn follows. At the end of the input the line that was begun is run;
--- where the read failed nothing is. Both are the last turn.
+-- What a turn does with a text, which is the line that was begun and what was read behind it: table and memory after it, the bytes that
+-- it handed on to be written and those that it kept. Of a piece the whole lines are run, and the unfinished one is kept. At the end of the
+-- input all is run; where the read failed nothing is; and both are the last turn.
 unfoldable pub Turned : Got → Bool → State → List ℕ → State → List ℕ → List ℕ → Type 0
-Turned (Bytes n) more s begun end handed kept = PieceRun n s begun end handed kept
-Turned End more s begun end handed kept = (more ≡ false) × (end ≡ after s begun) × (handed ≡ printed s begun)
-Turned Failed more s begun end handed kept = (more ≡ false) × (end ≡ s) × (handed ≡ [])
+Turned (Bytes n) more s text end handed kept =
+    (end ≡ after s (wholeLines text)) × (handed ≡ printed s (wholeLines text)) × (kept ≡ unfinished text)
+Turned End more s text end handed kept = (more ≡ false) × (end ≡ after s text) × (handed ≡ printed s text)
+Turned Failed more s text end handed kept = (more ≡ false) × (end ≡ s) × (handed ≡ [])
 
 -- All turns: some text was read in pieces and run, from table and memory and a line that was begun to table and memory at the end.
 pub record Ran (s : State) (begun : List ℕ) (end : State) : Type 0 where

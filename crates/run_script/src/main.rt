@@ -31,10 +31,9 @@ struct Sent {
     all: bool,
 }
 
-// What a turn did: what it read, how many bytes of an unfinished line it kept, how many bytes it handed on to be written, and whether
-// another turn follows. Only the promise needs `got` and `handed`.
+// What a turn did: how many bytes of an unfinished line it kept, how many bytes it handed on to be written, and whether another turn
+// follows.
 struct Turn {
-    got: Got,
     kept: usize,
     handed: usize,
     more: bool,
@@ -56,7 +55,8 @@ fn run_all(table: &mut [u64], memory: &mut [u64], text: &mut [u8], out: &mut [u8
     let mut kept = 0;
     let mut turns = u64::MAX;
     while turns > 0 {
-        let turn = run_piece(table, memory, text, kept, out);
+        let got = read_behind(text, kept);
+        let turn = run_piece(table, memory, text, kept, got, out);
         if !turn.more {
             return;
         }
@@ -65,53 +65,7 @@ fn run_all(table: &mut [u64], memory: &mut [u64], text: &mut [u8], out: &mut [u8
     }
 }
 
-// Reads once, behind the `kept` bytes of an unfinished line, and runs what there is. At the end of the input the unfinished line is the
-// last one. Where a read fails it is not run: it may not be whole.
-fn run_piece(
-    table: &mut [u64],
-    memory: &mut [u64],
-    text: &mut [u8],
-    kept: usize,
-    out: &mut [u8],
-) -> Turn
-    requires { ⌜ kept ≤ 121 ⌝ }
-    requires { ⌜ Roomy (now text) (now out) ⌝ }
-    ensures { λ r. ⌜ r .kept ≤ 121 ⌝ }
-    ensures { λ r. ⌜ Turned (r .got) (r .more) (state (now (table .entry)) (now (memory .entry))) (take kept (now (text .entry)))
-        (state (now (table .exit)) (now (memory .exit))) (take (r .handed) (now (out .exit))) (take (r .kept) (now (text .exit))) ⌝ }
-{
-    let got = read_behind(text, kept);
-    match got {
-        Got::Bytes(n) => {
-            let fed = feed(table, memory, text, kept + n, out);
-            let sent = print(out, fed.printed);
-            Turn {
-                got,
-                kept: fed.kept,
-                handed: sent.handed,
-                more: sent.all,
-            }
-        }
-        Got::End => {
-            let printed = run(table, memory, &text[..kept], out);
-            let sent = print(out, printed);
-            Turn {
-                got,
-                kept,
-                handed: sent.handed,
-                more: false,
-            }
-        }
-        Got::Failed => Turn {
-            got,
-            kept,
-            handed: 0,
-            more: false,
-        },
-    }
-}
-
-// Reads once, behind the first `kept` bytes. There is room for a byte at least, so that 0 says that the input has ended.
+// Reads once, behind the first `kept` bytes.
 fn read_behind(text: &mut [u8], kept: usize) -> Got
     requires { ⌜ kept < length (now text) ⌝ }
     ensures { λ r. ⌜ take kept (now (text .exit)) ≡ take kept (now (text .entry)) ⌝ }
@@ -130,6 +84,50 @@ fn read_behind(text: &mut [u8], kept: usize) -> Got
         return Got::End;
     }
     Got::Bytes(n)
+}
+
+// Runs the `kept` bytes of an unfinished line and what was read behind them, and hands the answers on. At the end of the input the
+// unfinished line is the last one. Where a read failed it is not run: it may not be whole.
+fn run_piece(
+    table: &mut [u64],
+    memory: &mut [u64],
+    text: &mut [u8],
+    kept: usize,
+    got: Got,
+    out: &mut [u8],
+) -> Turn
+    requires { ⌜ (kept ≤ 121) × (kept + count got ≤ length (now text)) ⌝ }
+    requires { ⌜ Roomy (now text) (now out) ⌝ }
+    ensures { λ r. ⌜ r .kept ≤ 121 ⌝ }
+    ensures { λ r. ⌜ Turned got (r .more)
+        (state (now (table .entry)) (now (memory .entry))) (take (kept + count got) (now (text .entry)))
+        (state (now (table .exit)) (now (memory .exit))) (take (r .handed) (now (out .exit))) (take (r .kept) (now (text .exit))) ⌝ }
+{
+    match got {
+        Got::Bytes(n) => {
+            let fed = feed(table, memory, text, kept + n, out);
+            let sent = print(out, fed.printed);
+            Turn {
+                kept: fed.kept,
+                handed: sent.handed,
+                more: sent.all,
+            }
+        }
+        Got::End => {
+            let printed = run(table, memory, &text[..kept], out);
+            let sent = print(out, printed);
+            Turn {
+                kept,
+                handed: sent.handed,
+                more: false,
+            }
+        }
+        Got::Failed => Turn {
+            kept,
+            handed: 0,
+            more: false,
+        },
+    }
 }
 
 // Hands the first `printed` bytes on to be written. What it answers is counted from the part that it hands on.

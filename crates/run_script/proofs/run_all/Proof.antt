@@ -26,8 +26,13 @@ abbrev μ-loop : tie.MeasureT-loop
 loop-holds : tie.Need-loop-holds Inv-loop μ-loop
 loop-holds c = (refl, refl, refl, refl, omega arith, λ end all. all)
 
+read-behind-requires : tie.Need-read-behind-requires Inv-loop μ-loop
+read-behind-requires c κs = omega arith
+
 run-piece-requires : tie.Need-run-piece-requires Inv-loop μ-loop
-run-piece-requires c κs = (omega arith, record { more = omega arith; enough = omega arith })
+run-piece-requires c κs =
+    let read = c .before .before .before .before .before .before .read-behind in
+    ((omega arith, omega (arith, read .ensures .1)), record { more = omega arith; enough = omega arith })
 
 same-length : tie.Need-same-length Inv-loop μ-loop
 same-length c = search needs
@@ -44,10 +49,11 @@ same-length-4 c = search needs
 returns : tie.Need-returns Inv-loop μ-loop
 returns c =
     let at-turn = c .before .before .before .before .before .before .before .before .before .before in
-    let l = at-turn .before .before .before .before .before .before .loop in
+    let at-read = at-turn .before .before .before .before .before .before .before in
     let turn = at-turn .run-piece in
     let over = not-true (turn .result .more) (c .if1 .taken) in
-    l .inv .5 _ (turn-last _ _ _ _ _ _ (rw over at (turn .ensures .1)))
+    at-read .before .before .before .loop .inv .5 _
+    (turn-last _ _ _ _ _ _ _ (at-read .read-behind .ensures .0) _ (rw over at (turn .ensures .1)))
 
 sub-turns : tie.Need-sub-turns Inv-loop μ-loop
 sub-turns c = search needs
@@ -58,7 +64,7 @@ loop-less c = search needs
 loop-again : tie.Need-loop-again Inv-loop μ-loop
 loop-again c =
     let at-turn = c .before .before .before .before .before .before .before .before .before .before in
-    let l = at-turn .before .before .before .before .before .before .loop in
+    let at-read = at-turn .before .before .before .before .before .before .before in
     let turn = at-turn .run-piece in
     let on = not-false (turn .result .more) (c .if1 .left) in
     let did = rw on at (turn .ensures .1) in (
@@ -67,7 +73,9 @@ loop-again c =
       omega arith,
       omega arith,
       turn .ensures .0,
-      λ end rest. l .inv .5 end (turn-before _ _ _ _ _ _ end did rest),
+      λ end rest.
+          at-read .before .before .before .loop .inv .5 end
+          (turn-before _ _ _ _ _ _ _ (at-read .read-behind .ensures .0) _ end did rest),
     )
 
 same-length-5 : tie.Need-same-length-5 Inv-loop μ-loop
@@ -92,6 +100,7 @@ run-all-spec =
     Inv-loop
     μ-loop
     loop-holds
+    read-behind-requires
     run-piece-requires
     same-length
     same-length-2

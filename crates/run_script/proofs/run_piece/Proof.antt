@@ -1,26 +1,24 @@
--- `run_script::run_piece` meets its contract: the bytes that were kept stand before those that were read, and `feed` and `run` promise the
--- rest.
+-- `run_script::run_piece` meets its contract: `feed` and `run` promise it of the first bytes of the text, and there is room for what they
+-- print.
 -- Assumes nothing.
 use mathlib.Core.Path.{refl, sym}
+use Prim.Native.Nat.{_+_}
+use native.Mathlib.Nat.{add-zero}
 use native.Mathlib.Omega.{arith}
 use lib.Seq.{length-take-le}
 use borrow.Author.Needs.{needs}
 use Rattle.run_script.specs.Turn.{Turned}
-use Rattle.run_script.proofs.Turns.{count-is, kept-few, piece-turn, last-turn}
+use Rattle.run_script.proofs.Turns.{count-is, kept-few, piece-prints, piece-keeps, last-prints}
 use Rattle.run_script.proofs.run_piece.Statement.{statement}
 use Rattle.run_script.proofs.run_piece.Tie as tie
-
-read-behind-requires : tie.Need-read-behind-requires
-read-behind-requires c κs = search needs
 
 enum-known-got : tie.Need-enum-known-got
 enum-known-got c = search needs
 
 add-feed : tie.Need-add-feed
 add-feed c =
-    let read = c .before .before .before .before .before .before .before .before .read-behind in
-    let is = c .before .before .before .before .got .given .1 in
-    let within = rw is at (read .ensures .1) in
+    let at-got = c .before .before .before .before in
+    let within = rw (at-got .got .given .1) at (at-got .before .before .before .before .before .before .pre .0 .1) in
     omega arith
 
 feed-requires : tie.Need-feed-requires
@@ -69,15 +67,18 @@ returns : tie.Need-returns
 unfolding Turned
 returns c =
     let at-feed = c .before .before .before .before .before .before .before .before .before .before in
-    let got = at-feed .before .before .before .before .before .before .got .given in
-    let at-read = at-feed .before .before .before .before .before .before .before .before .before .before in
-    let x = at-read .before .before .before .before .before .before .args in
+    let at-got = at-feed .before .before .before .before .before .before in
+    let got = at-got .got .given in
+    let x = at-got .before .before .before .before .before .before .args in
+    let filled = x .kept + got .0 .0 in
     let fed = at-feed .feed .ensures in
-    let is = at-read .read-behind .ensures .0 in
-    let within = rw (got .1) at (at-read .read-behind .ensures .1) in
-    rw (c .print .ensures) (
+    rw (got .1, c .print .ensures) (
       kept-few _ _ _ _ (fed .1 .1),
-      piece-turn _ _ _ _ _ _ (x .kept) _ is (omega arith) _ (got .0 .0) _ (omega arith) (fed .0) (fed .1 .0) (fed .1 .1),
+      (
+        fed .0,
+        piece-prints _ (x .text .now) _ _ _ (omega arith) filled (fed .1 .0),
+        piece-keeps (x .text .now) _ filled _ (fed .1 .1),
+      ),
     )
 
 same-length-5 : tie.Need-same-length-5
@@ -96,15 +97,11 @@ returns-2 : tie.Need-returns-2
 unfolding Turned
 returns-2 c =
     let at-run = c .before .before .before .before .before .before .before .before in
-    let got = at-run .before .before .before .before .before .enum-told .given in
-    let at-read = at-run .before .before .before .before .before .before .before .before .before in
-    let x = at-read .before .before .before .before .before .before .args in
+    let at-told = at-run .before .before .before .before .before in
+    let x = at-told .before .before .before .before .before .before .args in
     let ran = at-run .run .ensures in
-    let last = last-turn _ _ _ _ _ _ (x .kept) _ (at-read .read-behind .ensures .0) (omega arith) (ran .0) (ran .1) in
-    rw (got .1, c .print2 .ensures) (omega arith, (refl, last .0, last .1))
-
-same-length-9 : tie.Need-same-length-9
-same-length-9 c = search needs
+    rw (at-told .enum-told .given .1, add-zero, c .print2 .ensures)
+    (omega arith, (refl, ran .0, last-prints _ (x .text .now) _ _ _ (omega arith) (x .kept) (ran .1)))
 
 returns-3 : tie.Need-returns-3
 unfolding Turned
@@ -114,7 +111,6 @@ pub run-piece-spec : {M : Type 1} → statement M
 run-piece-spec =
     tie.close
     (tie.spec
-    read-behind-requires
     enum-known-got
     add-feed
     feed-requires
@@ -135,5 +131,4 @@ run-piece-spec =
     same-length-7
     same-length-8
     returns-2
-    same-length-9
     returns-3)
