@@ -160,7 +160,7 @@ pub fn fixed_access(writes: bool) -> Gate
     )
 }
 
-// READ and WRITE of a page that is not fixed: 7, 8, 9. FIXED is looked at here too, as clear, so that a row that needs it set is refused.
+// READ and WRITE of a page that is not fixed: 7, 8, 9. The row's FIXED is held against it too: one that needs it set breaks this promise.
 pub fn unfixed_access(writes: bool, page: Entry, caller: u64, gpa: u64) -> Gate
     ensures { λ g. ⌜ ((v : Verdict) → past g v ≡ unfixedAccess caller gpa page v) ⌝ }
 {
