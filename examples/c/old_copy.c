@@ -36,7 +36,7 @@ static void expect(uint64_t refusal, const char *what, skorbilek_answer answer)
         printf("  %-62s accepted\n", what);
     else
         printf("  %-62s refused with %" PRIu64 "\n", what, answer.refusal);
-    if (answer.refusal != refusal) {
+    if (answer.refusal != refusal || (answer.kind == SKORBILEK_REFUSED) != (refusal != 0)) {
         printf("  FAULT: the rules give %" PRIu64 "\n", refusal);
         faults++;
     }

@@ -28,6 +28,6 @@ pagesNeeded row one two rest =
     unless (kindMet (row .0 .0) (one .kind) 0 and kindMet (row .1 .0) (two .kind) 0) TYPE
     (flagsNeeded (row .0) one (flagsNeeded (row .1) two rest))
 
--- what WRITE needs, or READ: the last two rows of the table
+-- what WRITE needs, the last row of the table, or READ, the row before it
 unfoldable pub accessNeed : Bool → Need
 accessNeed writes = needsOf (pick writes 7 6) .0

@@ -72,7 +72,7 @@ loop-again c =
       omega arith,
       omega arith,
       omega arith,
-      omega (arith, turn .ensures .0),
+      turn .ensures .0,
       λ end rest.
           at-read .before .before .before .loop .inv .5 end
           (turn-before _ _ _ _ _ _ _ (at-read .read-behind .ensures .0) _ end did rest),
