@@ -6,9 +6,9 @@ use Prim.Native.Nat.{ℕ, zero, suc, _+_, _<_, _≤_}
 use native.Mathlib.Decide.{ℕ-discrete}
 use native.Mathlib.Numerals.{add-one}
 use native.Mathlib.Omega.{arith}
-use Rattle.rules.specs.Census.{holds, nothing, fails, total, stopped, holding, counted, tally}
-use Rattle.rules.specs.Census as rules
+use Rattle.rules.specs.Census.{total, stopped, holding, counted, tally}
 use Rattle.rules.specs.State.{State}
+use Rattle.rules.proofs.CensusLaws.{at-most-one}
 use Rattle.checks.specs.Answer.{number}
 use Rattle.checks.specs.declared.answer.Refusal.{Refusal}
 use Rattle.access.specs.Census.{held, tallied}
@@ -31,13 +31,6 @@ tally-stays s guest frame number (suc n) h below =
       | yes e ↦ rw e at h
       | no e ↦ rw (tally-stays s guest frame number n h (omega (arith, e)))
     ]
-
--- a frame adds one place at most
-at-most-one : (places more : ℕ) (here : rules.Holding) → counted (total places) here ≡ total more → more ≤ places + 1
-unfolding counted
-at-most-one places more (holds gpa) e = let h : places + 1 ≡ more = cc in omega arith
-at-most-one places more nothing e = let h : places ≡ more = cc in omega arith
-at-most-one places more (fails number) e = let z : _≡_ {A = ℕ} 0 1 = cc in absurd (omega arith)
 
 -- one turn of the loop: `next` is what the frame makes of the tally so far
 module _

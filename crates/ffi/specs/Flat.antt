@@ -5,9 +5,7 @@ use mathlib.Core.List.{List}
 use Prim.Native.Nat.{ℕ}
 use lib.Dec.{eqb}
 use Rattle.words.specs.Choice.{pick}
-use Rattle.rules.specs.Answers.{Told, refused, done, none, closed, opened, already, word, count, Outcome}
-use Rattle.rules.specs.Calls.{Call}
-use Rattle.rules.specs.Run.{Turn}
+use Rattle.rules.specs.Answers.{Told, refused, done, none, closed, opened, already, word, count, Outcome, outcome}
 use Rattle.rules.specs.State.{State, state}
 use Rattle.ffi.specs.declared.answer.Flat.{Flat}
 
@@ -76,6 +74,6 @@ says r =
 abbrev pub FlatSays : Type 0
 FlatSays = (told : Told) → says (flat told) ≡ told
 
--- a call of an exported function as a turn of a run: with what its returned answer says, and table and memory as it left them
-abbrev pub turn : Call → Flat → List ℕ → List ℕ → Turn
-turn call r table memory = record { call = call; told = says r; left = state table memory }
+-- a returned answer as the rules' answer that it says, with the table and memory that were left
+abbrev pub said : Flat → List ℕ → List ℕ → Outcome
+said r table memory = outcome (says r) (state table memory)

@@ -20,11 +20,9 @@ pub mod Room
 pub mod RoundTrip
 pub mod SaidFits
 pub mod SaidLaws
-pub mod StepAnswers
 pub mod Tells
 pub mod TextKeeps
 pub mod TextTells
 pub mod Texts
 pub mod UpTo
 pub mod Without
-pub mod WordsStay

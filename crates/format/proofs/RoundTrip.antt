@@ -12,9 +12,10 @@ use lib.ListN.{length, length-append}
 use Rattle.words.specs.Choice.{pick, _and_}
 use Rattle.words.proofs.ChoiceLaws.{pick-true}
 use Rattle.rules.specs.Calls.{RMPUPDATE, PVALIDATE, PFIX, PMERGE, PUNMERGE, PUNFIX, READ, WRITE, CENSUS}
+use Rattle.rules.specs.Words.{numbers, AreWords}
 use Rattle.format.specs.Line.{isCall, asked, areNumbers, asks, begun, spoken, said}
 use Rattle.format.specs.Number.{value, hex}
-use Rattle.format.specs.Written.{letter, numbers, spaced, written, AreWords, RoundTrip}
+use Rattle.format.specs.Written.{letter, spaced, written, RoundTrip}
 use Rattle.format.proofs.Fields.{fields-spaced}
 use Rattle.format.proofs.LineLaws.{said-short}
 use Rattle.format.proofs.NumberLaws.{hex-value, hex-short, hex-number}

@@ -1,17 +1,17 @@
 -- The numbers of a call that a line says fit into 64 bits: each is read from at most 16 hex digits.
 -- Assumes nothing.
-use mathlib.Core.Path.{_≡_, refl}
-use mathlib.Core.Bool.{Bool, true, false}
+use mathlib.Core.Path.{_≡_}
+use mathlib.Core.Bool.{Bool, true}
 use mathlib.Core.List.{List, [], _∷_, map}
 use Prim.Native.Nat.{ℕ, zero, suc, _+_, _*_, _^_, _≤_, _<_}
 use native.Mathlib.Omega.{arith}
 use lib.ListN.{length, getD}
 use borrow.Author.Tests.{leb-true, ltb-true}
 use Rattle.words.specs.Choice.{pick}
-use Rattle.words.proofs.ChoiceLaws.{and-left, and-right}
+use Rattle.words.proofs.ChoiceLaws.{pick-either, and-left, and-right}
+use Rattle.rules.specs.Words.{numbers, AreWords}
 use Rattle.format.specs.Line.{Said, says, wrong, asked, areNumbers, asks, begun, spoken, fields, said}
 use Rattle.format.specs.Number.{digitValue, areDigits, isNumber, valueAfter, value}
-use Rattle.format.specs.Written.{numbers, AreWords}
 use Rattle.format.proofs.ReadLaws.{value-grows, value-fits}
 
 -- ---- a number
@@ -44,9 +44,7 @@ Fits (says call) = AreWords (numbers call)
 Fits wrong = Unit {0}
 
 either : (t : Bool) (a b : Said) → (t ≡ true → Fits a) → Fits b → Fits (pick t a b)
-unfolding pick
-either true a b f g = f refl
-either false a b f g = g
+either t a b f g = pick-either Fits t a b f (λ other. g)
 
 asked-fits : (letter : ℕ) (given : List ℕ) → ((i : ℕ) → getD given i 0 < 2 ^ 64) → Fits (asked letter given)
 unfolding asked numbers

@@ -13,11 +13,12 @@ use lib.Seq.{drop-append-add}
 use Rattle.words.specs.Choice.{pick}
 use Rattle.rules.specs.Answers.{Told, refused, done, none, closed, opened, already, word, count}
 use Rattle.rules.specs.Calls.{Call, RMPUPDATE, PVALIDATE, PFIX, PMERGE, PUNMERGE, PUNFIX, READ, WRITE, CENSUS}
+use Rattle.rules.specs.Words.{MayAnswer, is-refused, is-none, is-closed, is-opened, is-already, is-fixed, is-merged, is-unmerged}
+use Rattle.rules.specs.Words.{is-unfixed, is-read, is-written, is-counted}
 use Rattle.format.specs.Number.{value, hex, decimal}
 use Rattle.format.specs.Place.{upTo}
 use Rattle.format.specs.Reply.{answered, reply}
-use Rattle.format.specs.Tells.{Answers, is-refused, is-none, is-closed, is-opened, is-already, is-fixed, is-merged, is-unmerged}
-use Rattle.format.specs.Tells.{is-unfixed, is-read, is-written, is-counted, ReplyTells}
+use Rattle.format.specs.Tells.{ReplyTells}
 use Rattle.format.specs.Text.{LF}
 use Rattle.format.proofs.Digits.{worth}
 use Rattle.format.proofs.NumberLaws.{hex-value, hex-without, decimal-worth, decimal-without}
@@ -71,7 +72,7 @@ granted (CENSUS asid) text = count (number LF (drop 5 text))
 heard : Call → List ℕ → Told
 heard call text = pick (eqb (getD text 2 0) (code "n")) (refused (worth 10 0 (upTo LF (drop 5 text)))) (granted call text)
 
-reply-heard : (call : Call) (told : Told) → Answers call told → heard call (reply call told) ≡ told
+reply-heard : (call : Call) (told : Told) → MayAnswer call told → heard call (reply call told) ≡ told
 unfolding heard granted reply answered pick
 reply-heard call told (is-refused {number} h) =
     rw (up-to-mark LF (decimal number) [] (decimal-without LF number (omega arith)), decimal-worth number h)

@@ -6,15 +6,15 @@ use Prim.Native.Nat.{ℕ}
 use Rattle.rules.specs.Calls.{Call, step}
 use Rattle.rules.specs.History.{history}
 use Rattle.rules.specs.State.{State}
+use Rattle.rules.specs.Words.{AreWords, HoldsWords, numbers}
+use Rattle.rules.proofs.StepAnswers.{step-answers}
+use Rattle.rules.proofs.WordsStay.{words-held, words-stay}
 use Rattle.format.specs.Line.{Said, says, wrong, said}
-use Rattle.format.specs.Tells.{AllAnswer, HoldsWords, TextTells}
+use Rattle.format.specs.Tells.{AllAnswer, TextTells}
 use Rattle.format.specs.Text.{lines, saidBy, callsOf, calls, printed}
-use Rattle.format.specs.Written.{numbers, AreWords}
 use Rattle.format.proofs.PrintedTells.{printed-tells}
 use Rattle.format.proofs.SaidFits.{Fits, said-fits}
-use Rattle.format.proofs.StepAnswers.{step-answers}
 use Rattle.format.proofs.TextKeeps.{calls-made}
-use Rattle.format.proofs.WordsStay.{words-held, words-stay}
 
 -- ---- calls whose numbers fit
 abbrev AllFit : List Call → Type 0
@@ -40,7 +40,7 @@ all-answer : (s : State) (all : List Call) → HoldsWords s → AllFit all → A
 unfolding history
 all-answer s [] words fit = tt
 all-answer s (call ∷ rest) words fit =
-    (step-answers s call words, all-answer (step s call .after) rest (words-stay s words call (fit .0)) (fit .1))
+    (step-answers s call words, all-answer (step s call .after) rest (words-stay s call words (fit .0)) (fit .1))
 
 pub text-tells : TextTells
 unfolding printed calls

@@ -1,8 +1,10 @@
 // The monitor, whole: the nine calls on a lent table and a lent memory, and `step`, which makes any of them. Nothing is asked of a
 // caller: every call checks its arguments, the table and memory itself, and answers.
+ghost use Rattle.rules.specs.History.{made};
 ghost use Rattle.rules.specs.Run.{Promised};
 ghost use Rattle.rules.specs.State.{state};
-ghost use Rattle.monitor.specs.Call.{turn};
+ghost use Rattle.checks.specs.Answer.{gave};
+ghost use Rattle.monitor.specs.Call.{called};
 pub use access::census::census;
 pub use access::transfer::read;
 pub use access::transfer::write;
@@ -40,8 +42,8 @@ pub enum Call {
 // Makes the call by its function. `Promised` is the equation: answer, table and memory are those of the rules' `step`; what the rules'
 // `specs/Run` says of runs, demand 3 among it, is said of this.
 pub fn step(table: &mut [u64], memory: &mut [u64], call: Call) -> Answer
-    ensures { λ r. ⌜ Promised (state (now (table .entry)) (now (memory .entry)))
-        (turn call r (now (table .exit)) (now (memory .exit))) ⌝ }
+    ensures { λ r. ⌜ Promised (made (called call) (state (now (table .entry)) (now (memory .entry)))
+        (gave r (now (table .exit)) (now (memory .exit)))) ⌝ }
 {
     match call {
         Call::Rmpupdate(caller, hpa, gpa, asid, kind) => {

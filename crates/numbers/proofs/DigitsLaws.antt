@@ -3,20 +3,12 @@
 use mathlib.Core.Path.{_≡_}
 use mathlib.Core.List.{List, [], _∷_, _++_, append-assoc}
 use Prim.Native.Nat.{ℕ, suc, _-_, _/_, _%_, _≤_, _<_}
+use native.Mathlib.Nat.{mod-eq-of-lt}
 use native.Mathlib.Omega.{arith}
 use lib.ListN.{length, take, drop, set, length-drop}
 use lib.Seq.{set-split, drop-at, length-take-le, take-all}
-use borrow.Author.Tests.{lt-ltb, le-ltb}
-use Rattle.words.specs.Choice.{pick}
 use Rattle.format.specs.Number.{digit, digits}
-
-digits-last : (base most n : ℕ) → n < base → digits base (suc most) n ≡ digit (n % base) ∷ []
-unfolding digits pick
-digits-last base most n h = rw (lt-ltb n base h)
-
-digits-more : (base most n : ℕ) → base ≤ n → digits base (suc most) n ≡ digits base most (n / base) ++ (digit (n % base) ∷ [])
-unfolding digits pick
-digits-more base most n h = rw (le-ltb n base h)
+use Rattle.format.proofs.Digits.{digits-few, digits-more}
 
 put : (spelt : List ℕ) (k d : ℕ) → k < length spelt → drop k (set spelt k d) ≡ d ∷ drop (suc k) spelt
 put spelt k d h =
@@ -25,7 +17,7 @@ put spelt k d h =
 -- `spelt` has room for i digits, and d is the last digit of n: it is put at k, which is i less one
 module _ (base n : ℕ) (spelt : List ℕ) (i k d : ℕ) (next : suc k ≡ i) (room : i ≤ length spelt) (last : d ≡ digit (n % base)) where
   pub spelt-last : n < base → drop k (set spelt k d) ≡ digits base i n ++ drop i spelt
-  spelt-last h = rw (put spelt k d (omega arith), ← next, digits-last base k n h, last)
+  spelt-last h = rw (put spelt k d (omega arith), ← next, digits-few base k n h, last, mod-eq-of-lt h)
 
   pub spelt-more : base ≤ n → digits base k (n / base) ++ drop k (set spelt k d) ≡ digits base i n ++ drop i spelt
   spelt-more h = rw (put spelt k d (omega arith), ← next, digits-more base k n h, last, append-assoc)

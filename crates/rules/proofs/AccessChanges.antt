@@ -30,28 +30,28 @@ use Rattle.rules.proofs.StateLaws.{size-word, entry-tells, entry-after-
 
 -- ---- READ
 pub read-change :
-    (s : State) (guest caller gpa hpa gtype ntype index value : ℕ)
-    → Change s s (eventOf (READ caller gpa hpa gtype ntype index) (word value)) guest
+    {s : State} {caller gpa hpa gtype ntype index : ℕ} → Accessed s false caller gpa hpa gtype ntype index → (guest : ℕ)
+    → Change s s (eventOf (READ caller gpa hpa gtype ntype index) (word (wordAt s (frameOf hpa) index))) guest
 unfolding eventOf byAnswer accepted
-read-change s guest caller gpa hpa gtype ntype index value =
-    ⊎-elim (λ o. rw (pick-true _ _ o) (only-read s guest caller gpa index)) (λ o. rw (pick-false _ _ o) (unchanged s guest))
+read-change {s} {gtype = gtype} p guest =
+    ⊎-elim (λ o. rw (pick-true _ _ o) (only-read s guest _ _ _)) (λ o. rw (pick-false _ _ o) (unchanged s guest))
     (true-or-false (isOwned gtype))
 
 -- an access that is private or mergeable is at a place of the caller
 way-place :
-    (s : State) (w : Bool) (caller gpa f gtype : ℕ) → Way s w caller gpa f gtype → isOwned gtype ≡ true → holding s caller f ≡ holds gpa
-way-place s w caller gpa f gtype (above high t) o = absurd (shared-unowned t o)
-way-place s w caller gpa f gtype (shared e l here k t) o = absurd (shared-unowned t o)
-way-place s w caller gpa f gtype (own e l here k t u a at v) o = rw (← at) (of-its-own s caller f e here u v a)
-way-place s w caller gpa f gtype (merged e l here k t x r c) o = present-there s caller f e here x gpa c
+    {s : State} {w : Bool} {caller gpa f gtype : ℕ} → Way s w caller gpa f gtype → isOwned gtype ≡ true → holding s caller f ≡ holds gpa
+way-place (above high t) o = absurd (shared-unowned t o)
+way-place (shared e l here k t) o = absurd (shared-unowned t o)
+way-place (own e l here k t u a at v) o = rw (← at) (of-its-own _ _ _ e here u v a)
+way-place (merged e l here k t x r c) o = present-there _ _ _ e here x _ c
 
 owned-not-shared : (kind : ℕ) → isOwned kind ≡ true → eqb kind SHARED ≡ false
 owned-not-shared kind o = ne-eqb kind SHARED (λ k. shared-unowned k o)
 
 owned-access :
-    (s : State) (w : Bool) (caller gpa hpa gtype ntype index : ℕ) → Accessed s w caller gpa hpa gtype ntype index → isOwned gtype ≡ true
+    {s : State} {w : Bool} {caller gpa hpa gtype ntype index : ℕ} → Accessed s w caller gpa hpa gtype ntype index → isOwned gtype ≡ true
     → isGuest caller ≡ true
-owned-access s w caller gpa hpa gtype ntype index p o =
+owned-access {caller = caller} {gpa} {hpa} {gtype} {ntype} {index} p o =
     let some = guest-access caller gpa hpa gtype ntype index (p .party) (owned-not-shared gtype o) in
     let small = access-tells caller gpa hpa gtype ntype index (p .arguments) .caller-small in
     in-range caller (omega (arith, some)) small
@@ -64,12 +64,11 @@ pub record ReadPlace (s : State) (guest gpa index : ℕ) (told : Told) : Type 0 
 
 -- an accepted private or mergeable read is a guest's, and answers a word of a place of it
 pub read-of-place :
-    (s : State) (caller gpa hpa gtype ntype index : ℕ) → Accessed s false caller gpa hpa gtype ntype index
-    → (guest at i : ℕ)
+    {s : State} {caller gpa hpa gtype ntype index guest at i : ℕ} → Accessed s false caller gpa hpa gtype ntype index
     → eventOf (READ caller gpa hpa gtype ntype index) (word (wordAt s (frameOf hpa) index)) ≡ reads guest at i
     → ReadPlace s guest at i (word (wordAt s (frameOf hpa) index))
 unfolding eventOf byAnswer accepted
-read-of-place s caller gpa hpa gtype ntype index p guest at i =
+read-of-place {s} {caller} {gpa} {hpa} {gtype} {ntype} {index} {guest} {at} {i} p =
     ⊎-elim owned (λ o h. let k = sym (pick-false _ _ o) ∙ h in absurd (false≢true (cc))) (true-or-false (isOwned gtype))
   where
     named : isOwned gtype ≡ true → reads caller gpa index ≡ reads guest at i
@@ -79,9 +78,9 @@ read-of-place s caller gpa hpa gtype ntype index p guest at i =
         let where-at : gpa ≡ at = cc in
         let which : index ≡ i = cc in
         record {
-          range = rw (← who) (owned-access s false caller gpa hpa gtype ntype index p o);
+          range = rw (← who) (owned-access p o);
           frame = frameOf hpa;
-          place = rw (← who, ← where-at) (way-place s false caller gpa (frameOf hpa) gtype (p .way) o);
+          place = rw (← who, ← where-at) (way-place (p .way) o);
           answer = rw which;
         }
 
@@ -108,8 +107,8 @@ module _ (caller gpa index value guest at i w : ℕ) where
       (λ who. pick-false _ _ (rw (ne-eqb caller guest who)))
       (same-or-not caller guest)
 
-module _ (s : State) (sound : Sound s) (caller gpa hpa gtype ntype index value : ℕ) (p : Accessed s true caller gpa hpa gtype ntype index)
-    (guest : ℕ) where
+module _ {s : State} (sound : Sound s) {caller gpa hpa gtype ntype index : ℕ} (value : ℕ)
+    (p : Accessed s true caller gpa hpa gtype ntype index) (guest : ℕ) where
   abbrev writtenNow : State
   writtenNow = withWord s (frameOf hpa) index value
 
@@ -117,7 +116,7 @@ module _ (s : State) (sound : Sound s) (caller gpa hpa gtype ntype index value :
   still : (f : ℕ) → holding writtenNow guest f ≡ holding s guest f
   still f =
       holding-same s writtenNow guest f (entry-after-word s _ index value f)
-      (λ e here fixed. written-consulted s sound f e here fixed caller gpa (frameOf hpa) gtype index value guest (p .way))
+      (λ e here fixed. written-consulted sound f here fixed index value guest (p .way))
 
   -- a SHARED access is to a frame that is no place
   shared-off :
@@ -142,7 +141,7 @@ module _ (s : State) (sound : Sound s) (caller gpa hpa gtype ntype index value :
 
   module _ (o : isOwned gtype ≡ true) where
     there : holding s caller (frameOf hpa) ≡ holds gpa
-    there = way-place s true caller gpa (frameOf hpa) gtype (p .way) o
+    there = way-place (p .way) o
 
     -- every other place is another frame
     off-others : (f at : ℕ) → holding s guest f ≡ holds at → (caller ≡ guest → gpa ≢ at) → f ≢ frameOf hpa

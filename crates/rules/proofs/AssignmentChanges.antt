@@ -25,18 +25,18 @@ use Rattle.rules.proofs.Sound.{Sound}
 use Rattle.rules.proofs.Steps.{validated-again}
 
 -- ---- RMPUPDATE
-module _ (s : State) (sound : Sound s) (caller hpa gpa asid kind : ℕ) (before : Entry) (p : Updated s caller hpa gpa asid kind before)
+module _ {s : State} (sound : Sound s) {caller hpa gpa asid kind : ℕ} {before : Entry} (p : Updated s caller hpa gpa asid kind before)
     (guest : ℕ) where
   abbrev updated : State
   updated = assigning s (frameOf hpa) before gpa asid kind
 
   update-effect : Assigns s updated (frameOf hpa) before (entry asid kind false false gpa)
-  update-effect = assigning-does s caller hpa gpa asid kind before p
+  update-effect = assigning-does p
 
   update-beside : (f : ℕ) → f ≢ frameOf hpa → holding updated guest f ≡ holding s guest f
   update-beside f other =
       holding-same s updated guest f (update-effect .put .elsewhere f other)
-      (λ e here fixed. assigned-consulted s sound f e here fixed guest caller hpa gpa asid kind before p)
+      (λ e here fixed. assigned-consulted sound f here fixed guest p)
 
   -- the frame is no place afterwards
   update-left : holding updated guest (frameOf hpa) ≡ nothing
@@ -72,18 +72,18 @@ module _ (s : State) (sound : Sound s) (caller hpa gpa asid kind : ℕ) (before 
       (true-or-false (before .validated))
 
 -- ---- PVALIDATE
-module _ (s : State) (sound : Sound s) (caller gpa hpa kind : ℕ) (before : Entry) (p : Validated s caller gpa hpa kind before)
+module _ {s : State} (sound : Sound s) {caller gpa hpa kind : ℕ} {before : Entry} (p : Validated s caller gpa hpa kind before)
     (guest : ℕ) where
   abbrev validated : State
   validated = validating s (frameOf hpa) before
 
   validate-effect : Validates s validated (frameOf hpa) (entry caller kind true false gpa)
-  validate-effect = validating-does s caller gpa hpa kind before p
+  validate-effect = validating-does p
 
   validate-beside : (f : ℕ) → f ≢ frameOf hpa → holding validated guest f ≡ holding s guest f
   validate-beside f other =
       holding-same s validated guest f (validate-effect .put .elsewhere f other)
-      (λ e here fixed. validated-consulted s sound f e here fixed guest caller gpa hpa kind before p)
+      (λ e here fixed. validated-consulted sound f here fixed guest p)
 
   -- a place of another frame was there, and the frame's own is the one opened
   whence-opened : (at f : ℕ) → holding validated guest f ≡ holds at → Whence s validated (opens caller gpa (frameOf hpa)) guest at f

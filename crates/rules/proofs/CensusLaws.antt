@@ -14,18 +14,19 @@ use Rattle.words.proofs.ChoiceLaws.{pick-true, pick-false}
 use Rattle.entries.specs.Entry.{isGuest, isAddress}
 use Rattle.entries.proofs.LeafLaws.{address-small}
 use Rattle.entries.proofs.Tells.{false-not-true}
-use Rattle.rules.specs.Answers.{count, outcome, settle, unless}
+use Rattle.rules.specs.Answers.{Told, count, outcome, settle, unless}
 use Rattle.rules.specs.Balance.{sum, overAddresses, CensusSays, CensusCounts}
-use Rattle.rules.specs.Calls.{step}
+use Rattle.rules.specs.Calls.{CENSUS}
 use Rattle.rules.specs.Census.{Holding, holds, nothing, fails, holding, placeIn, places, Tally, total, stopped, counted, tally}
 use Rattle.rules.specs.Census.{reported, census}
 use Rattle.rules.specs.State.{State, N, sized}
+use Rattle.rules.proofs.Accepted.{Accepted, by-census}
 use Rattle.rules.proofs.Holdings.{holding-address}
 use Rattle.rules.proofs.Never.{sound-faultless}
-use Rattle.rules.proofs.Passed.{census-cases}
 use Rattle.rules.proofs.PlaceLaws.{places-are, unplaced}
 use Rattle.rules.proofs.Reason.{tally-stops}
 use Rattle.rules.proofs.Sound.{Sound}
+use Rattle.rules.proofs.Stepped.{step-cases}
 use Rattle.rules.proofs.Sums.{sum-same, sum-none, sum-single, sum-swap, sum-most}
 
 -- ---- no more places than frames
@@ -66,6 +67,16 @@ tally-total s guest (suc k) n e =
 pub tally-held : (s : State) (guest n : ℕ) → tally s guest (N s) ≡ total n → n ≡ held s guest
 unfolding held
 tally-held s guest = tally-total s guest (N s)
+
+pub tally-most : (s : State) (guest n : ℕ) → tally s guest (N s) ≡ total n → n ≤ N s
+tally-most s guest n e = rw (tally-held s guest n e) (held-most s guest)
+
+-- a frame adds one place at most
+pub at-most-one : (places more : ℕ) (here : Holding) → counted (total places) here ≡ total more → more ≤ places + 1
+at-most-one places more here e =
+    let so-far = counted-total (total places) here more e in
+    let same : places ≡ so-far .0 = cc (so-far .1) in
+    omega (arith, so-far .2, one-most here)
 
 -- ---- in a sound state it is not stopped
 module _ (s : State) (sound : Sound s) (guest : ℕ) where
@@ -111,14 +122,15 @@ places-together s guest = places-below s guest _ (λ f gpa h. address-small gpa 
 
 -- ---- what an answered census says
 pub census-counts : CensusCounts
-unfolding step
 census-counts s guest n =
-    census-cases (λ o. o .told ≡ count n → CensusSays s guest n) s (λ m why h. absurd (false≢true (cc))) guest
-    (λ m passed h.
-    let answer : m ≡ n = cc in
-    let is-held = rw answer at (tally-held s guest m (passed .sum)) in
-    record {
-      counts = rw (places-together s guest) is-held;
-      bounded = rw is-held (held-most s guest);
-      nowhere-else = no-place s guest;
-    })
+    step-cases (λ o. o .told ≡ count n → CensusSays s guest n) s (CENSUS guest) (λ m why h. absurd (false≢true (cc))) (λ told after. go)
+  where
+    go : {told : Told} {after : State} → Accepted s (CENSUS guest) told after → told ≡ count n → CensusSays s guest n
+    go (by-census {n = m} passed) h =
+        let answer : m ≡ n = cc in
+        let is-held = rw answer at (tally-held s guest m (passed .sum)) in
+        record {
+          counts = rw (places-together s guest) is-held;
+          bounded = rw answer at (tally-most s guest m (passed .sum));
+          nowhere-else = no-place s guest;
+        }

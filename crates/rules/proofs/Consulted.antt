@@ -7,7 +7,7 @@ use mathlib.Core.Logic.{_≢_}
 use Prim.Native.Nat.{ℕ}
 use native.Mathlib.Omega.{arith}
 use borrow.Author.Tests.{eqb-false}
-use Rattle.entries.specs.Entry.{SHARED, MERGEABLE, LEAF, frameOf, isOwned, entry}
+use Rattle.entries.specs.Entry.{SHARED, MERGEABLE, LEAF, frameOf, entry}
 use Rattle.entries.specs.declared.entry.Entry.{Entry}
 use Rattle.entries.specs.declared.entry.Decoded.the-variants.{Good}
 use Rattle.entries.specs.declared.leaf.LeafWord.the-variants.{Absent, Present}
@@ -24,84 +24,82 @@ use Rattle.rules.proofs.Passed.{Updated, Validated, Fixed, Merged, Unme
 use Rattle.rules.proofs.Sound.{Sound}
 use Rattle.rules.proofs.StateLaws.{entry-tells, entry-after-word, word-elsewhere}
 
-module _ (s : State) (sound : Sound s) (g : ℕ) (d : Entry) (page : entryAt s g ≡ Good d) (fixed : d .fixed ≡ true) where
+module _ {s : State} (sound : Sound s) (g : ℕ) {d : Entry} (page : entryAt s g ≡ Good d) (fixed : d .fixed ≡ true) where
   -- the leaf of a fixed page is no frame of another type
-  pub leaf-off : (f : ℕ) (e : Entry) → entryAt s f ≡ Good e → e .kind ≢ LEAF → leafFrame d ≢ f
-  leaf-off f e here other = leaf-apart s _ f e (is-a-leaf s d 0 (sound .unbroken g d 0 page fixed)) here other
+  leaf-off : (f : ℕ) {e : Entry} → entryAt s f ≡ Good e → e .kind ≢ LEAF → leafFrame d ≢ f
+  leaf-off f here other = leaf-apart s _ f _ (is-a-leaf s d 0 (sound .unbroken g d 0 page fixed)) here other
 
   -- nor the leaf of another fixed page
-  pub leaf-own : (f : ℕ) (e : Entry) → entryAt s f ≡ Good e → e .fixed ≡ true → g ≢ f → leafFrame d ≢ leafFrame e
-  leaf-own f e here too apart same = apart (sound .alone g f d e page here fixed too same)
+  leaf-own : (f : ℕ) {e : Entry} → entryAt s f ≡ Good e → e .fixed ≡ true → g ≢ f → leafFrame d ≢ leafFrame e
+  leaf-own f here too apart same = apart (sound .alone g f d _ page here fixed too same)
 
   module _ (guest : ℕ) where
     pub assigned-consulted :
-        (caller hpa gpa asid kind : ℕ) (old : Entry) → Updated s caller hpa gpa asid kind old
+        {caller hpa gpa asid kind : ℕ} {old : Entry} → Updated s caller hpa gpa asid kind old
         → consulted (assigning s (frameOf hpa) old gpa asid kind) d guest ≡ consulted s d guest
-    assigned-consulted caller hpa gpa asid kind old p =
-        let e = assigning-does s caller hpa gpa asid kind old p in
-        let off = leaf-off _ old (p .here) (eqb-false _ _ (p .no-leaf)) in
+    assigned-consulted p =
+        let e = assigning-does p in
+        let off = leaf-off _ (p .here) (eqb-false _ _ (p .no-leaf)) in
         consulted-same s _ d guest (e .put .elsewhere _ off) (e .words _ _ off)
 
     pub validated-consulted :
-        (caller gpa hpa kind : ℕ) (old : Entry) → Validated s caller gpa hpa kind old
+        {caller gpa hpa kind : ℕ} {old : Entry} → Validated s caller gpa hpa kind old
         → consulted (validating s (frameOf hpa) old) d guest ≡ consulted s d guest
-    validated-consulted caller gpa hpa kind old p =
-        let e = validating-does s caller gpa hpa kind old p in
-        let owned : isOwned (old .kind) ≡ true = rw (p .type) (validate-tells caller gpa hpa kind (p .arguments) .owned) in
-        let off = leaf-off _ old (p .here) (owned-no-leaf _ owned) in
+    validated-consulted p =
+        let e = validating-does p in
+        let owned = rw (← p .type) at (validate-tells _ _ _ _ (p .arguments) .owned) in
+        let off = leaf-off _ (p .here) (owned-no-leaf _ owned) in
         consulted-same s _ d guest (e .put .elsewhere _ off) (e .words _ _)
 
     pub fixed-consulted :
-        (caller hpa leaf : ℕ) (old : Entry) → Fixed s caller hpa leaf old
+        {caller hpa leaf : ℕ} {old : Entry} → Fixed s caller hpa leaf old
         → consulted (fixing s (frameOf hpa) old leaf) d guest ≡ consulted s d guest
-    fixed-consulted caller hpa leaf old p =
-        let e = fixing-does s caller hpa leaf old p in
-        let off = leaf-off _ old (p .here) (not-a-leaf MERGEABLE (p .type) (omega arith)) in
-        let free = unused-leaf s leaf g d (p .unused) (two-addresses caller hpa leaf (p .arguments) .1) page fixed in
+    fixed-consulted p =
+        let e = fixing-does p in
+        let off = leaf-off _ (p .here) (not-a-leaf MERGEABLE (p .type) (omega arith)) in
+        let free = unused-leaf s _ g d (p .unused) (two-addresses _ _ _ (p .arguments) .1) page fixed in
         consulted-same s _ d guest (e .put .elsewhere _ off) (e .words _ _ free)
 
     pub merged-consulted :
-        (caller hpa1 hpa2 : ℕ) (one two : Entry) → Merged s caller hpa1 hpa2 one two → g ≢ frameOf hpa1
+        {caller hpa1 hpa2 : ℕ} {one two : Entry} → Merged s caller hpa1 hpa2 one two → g ≢ frameOf hpa1
         → consulted (merging s one (frameOf hpa2) two) d guest ≡ consulted s d guest
-    merged-consulted caller hpa1 hpa2 one two p apart =
-        let e = merging-does s caller hpa1 hpa2 one two p in
-        let off = leaf-off _ two (p .here2) (not-a-leaf MERGEABLE (p .type2) (omega arith)) in
-        consulted-same s _ d guest (e .put .elsewhere _ off) (e .words _ _ off (leaf-own _ one (p .here1) (p .fixed1) apart))
+    merged-consulted p apart =
+        let e = merging-does p in
+        let off = leaf-off _ (p .here2) (not-a-leaf MERGEABLE (p .type2) (omega arith)) in
+        consulted-same s _ d guest (e .put .elsewhere _ off) (e .words _ _ off (leaf-own _ (p .here1) (p .fixed1) apart))
 
     pub unmerged-consulted :
-        (caller hpa1 hpa2 asid : ℕ) (one two : Entry) (gpa : ℕ) → Unmerged s caller hpa1 hpa2 asid one two gpa → g ≢ frameOf hpa1
+        {caller hpa1 hpa2 asid : ℕ} {one two : Entry} {gpa : ℕ} → Unmerged s caller hpa1 hpa2 asid one two gpa → g ≢ frameOf hpa1
         → consulted (unmerging s (frameOf hpa1) one (frameOf hpa2) asid gpa) d guest ≡ consulted s d guest
-    unmerged-consulted caller hpa1 hpa2 asid one two gpa p apart =
-        let e = unmerging-does s caller hpa1 hpa2 asid one two gpa p in
-        let off = leaf-off _ two (p .here2) (not-a-leaf SHARED (p .type2) (omega arith)) in
-        consulted-same s _ d guest (e .put .elsewhere _ off) (e .words _ _ off (leaf-own _ one (p .here1) (p .fixed1) apart))
+    unmerged-consulted p apart =
+        let e = unmerging-does p in
+        let off = leaf-off _ (p .here2) (not-a-leaf SHARED (p .type2) (omega arith)) in
+        consulted-same s _ d guest (e .put .elsewhere _ off) (e .words _ _ off (leaf-own _ (p .here1) (p .fixed1) apart))
 
     pub unfixed-consulted :
-        (caller hpa : ℕ) (old : Entry) (gpa : ℕ) → Unfixed s caller hpa old gpa → g ≢ frameOf hpa
+        {caller hpa : ℕ} {old : Entry} {gpa : ℕ} → Unfixed s caller hpa old gpa → g ≢ frameOf hpa
         → consulted (unfixing s (frameOf hpa) old gpa) d guest ≡ consulted s d guest
-    unfixed-consulted caller hpa old gpa p apart =
-        let e = unfixing-does s caller hpa old gpa p in
-        let off = leaf-off _ old (p .here) (not-a-leaf MERGEABLE (p .type) (omega arith)) in
-        let own = leaf-own _ old (p .here) (p .fixed) apart in
+    unfixed-consulted p apart =
+        let e = unfixing-does p in
+        let off = leaf-off _ (p .here) (not-a-leaf MERGEABLE (p .type) (omega arith)) in
+        let own = leaf-own _ (p .here) (p .fixed) apart in
         consulted-same s _ d guest (e .elsewhere _ off own) (e .words _ _ own)
 
   -- a write goes to no leaf
-  write-off : (caller gpa f gtype : ℕ) → Way s true caller gpa f gtype → leafFrame d ≢ f
-  write-off caller gpa f gtype (above high t) =
-      λ same. let l = leaf-inside s g d page fixed in let z : ⊥ = omega arith in absurd z
-  write-off caller gpa f gtype (shared e l here k t) = leaf-off f e here (not-a-leaf SHARED k (omega arith))
-  write-off caller gpa f gtype (own e l here k t u o a v) = leaf-off f e here (owned-no-leaf _ (entry-tells s f e here .validated-owned v))
-  write-off caller gpa f gtype (merged e l here k t u w c) = absurd (false≢true (sym w))
+  write-off : {caller gpa f gtype : ℕ} → Way s true caller gpa f gtype → leafFrame d ≢ f
+  write-off (above high t) = λ same. let l = leaf-inside s g d page fixed in let z : ⊥ = omega arith in absurd z
+  write-off (shared e l here k t) = leaf-off _ here (not-a-leaf SHARED k (omega arith))
+  write-off (own e l here k t u o a v) = leaf-off _ here (owned-no-leaf _ (entry-tells s _ e here .validated-owned v))
+  write-off (merged e l here k t u w c) = absurd (false≢true (sym w))
 
   pub written-consulted :
-      (caller gpa f gtype i value guest : ℕ) → Way s true caller gpa f gtype
+      {caller gpa f gtype : ℕ} (i value guest : ℕ) → Way s true caller gpa f gtype
       → consulted (withWord s f i value) d guest ≡ consulted s d guest
-  written-consulted caller gpa f gtype i value guest w =
-      consulted-same s _ d guest (entry-after-word s f i value _)
-      (word-elsewhere s f i value _ _ (write-off caller gpa f gtype w))
+  written-consulted {f = f} i value guest w =
+      consulted-same s _ d guest (entry-after-word s f i value _) (word-elsewhere s f i value _ _ (write-off w))
 
 -- ---- the words that PFIX, PMERGE and PUNMERGE are about
-module _ (s : State) (caller hpa leaf : ℕ) (old : Entry) (p : Fixed s caller hpa leaf old) where
+module _ {s : State} {caller hpa leaf : ℕ} {old : Entry} (p : Fixed s caller hpa leaf old) where
   abbrev FixedEntry : Entry
   FixedEntry = entry (old .asid) MERGEABLE true true leaf
 
@@ -109,44 +107,44 @@ module _ (s : State) (caller hpa leaf : ℕ) (old : Entry) (p : Fixed s caller h
   new-leaf : isLeaf (entryAt (fixing s (frameOf hpa) old leaf) (leafFrame FixedEntry)) ≡ true
   unfolding leafFrame entry
   new-leaf =
-      let e = fixing-does s caller hpa leaf old p in
+      let e = fixing-does p in
       let off = leaf-apart s _ _ old (p .is-leaf) (p .here) (not-a-leaf MERGEABLE (p .type) (omega arith)) in
       rw (e .put .elsewhere _ off) (p .is-leaf)
 
   pub fixed-owner : consulted (fixing s (frameOf hpa) old leaf) FixedEntry (old .asid) ≡ Present (old .address)
   unfolding leafFrame entry
   fixed-owner =
-      let e = fixing-does s caller hpa leaf old p in
+      let e = fixing-does p in
       consulted-is _ FixedEntry (old .asid) new-leaf
       ∙ rw (e .owner-word) (leaf-present _ (entry-tells s _ old (p .here) .address-fits))
 
   pub fixed-others : (guest : ℕ) → guest ≢ old .asid → consulted (fixing s (frameOf hpa) old leaf) FixedEntry guest ≡ Absent
   unfolding leafFrame entry
   fixed-others guest other =
-      let e = fixing-does s caller hpa leaf old p in
+      let e = fixing-does p in
       consulted-is _ FixedEntry guest new-leaf ∙ rw (e .other-words guest other) leaf-absent
 
-module _ (s : State) (caller hpa1 hpa2 : ℕ) (one two : Entry) (p : Merged s caller hpa1 hpa2 one two) where
+module _ {s : State} {caller hpa1 hpa2 : ℕ} {one two : Entry} (p : Merged s caller hpa1 hpa2 one two) where
   pub merged-here : consulted (merging s one (frameOf hpa2) two) one (two .asid) ≡ Present (two .address)
   merged-here =
-      let e = merging-does s caller hpa1 hpa2 one two p in
+      let e = merging-does p in
       consulted-is _ one (two .asid) (rw (e .put .elsewhere _ (e .apart)) (e .is-leaf))
       ∙ rw (e .leaf-word) (leaf-present _ (entry-tells s _ two (p .here2) .address-fits))
 
   pub merged-others : (guest : ℕ) → guest ≢ two .asid → consulted (merging s one (frameOf hpa2) two) one guest ≡ consulted s one guest
   merged-others guest other =
-      let e = merging-does s caller hpa1 hpa2 one two p in
+      let e = merging-does p in
       consulted-same s _ one guest (e .put .elsewhere _ (e .apart)) (e .leaf-words guest other)
 
-module _ (s : State) (caller hpa1 hpa2 asid : ℕ) (one two : Entry) (gpa : ℕ) (p : Unmerged s caller hpa1 hpa2 asid one two gpa) where
+module _ {s : State} {caller hpa1 hpa2 asid : ℕ} {one two : Entry} {gpa : ℕ} (p : Unmerged s caller hpa1 hpa2 asid one two gpa) where
   pub unmerged-here : consulted (unmerging s (frameOf hpa1) one (frameOf hpa2) asid gpa) one asid ≡ Absent
   unmerged-here =
-      let e = unmerging-does s caller hpa1 hpa2 asid one two gpa p in
+      let e = unmerging-does p in
       consulted-is _ one asid (rw (e .put .elsewhere _ (e .apart)) (e .is-leaf)) ∙ rw (e .leaf-word) leaf-absent
 
   pub unmerged-others :
       (guest : ℕ) → guest ≢ asid
       → consulted (unmerging s (frameOf hpa1) one (frameOf hpa2) asid gpa) one guest ≡ consulted s one guest
   unmerged-others guest other =
-      let e = unmerging-does s caller hpa1 hpa2 asid one two gpa p in
+      let e = unmerging-does p in
       consulted-same s _ one guest (e .put .elsewhere _ (e .apart)) (e .leaf-words guest other)

@@ -8,6 +8,7 @@ use Prim.Native.Nat.{ℕ, _<_}
 use native.Mathlib.Omega.{arith}
 use lib.Dec.{eqb}
 use Rattle.words.specs.Choice.{pick, _or_}
+use Rattle.words.proofs.ChoiceLaws.{pick-either}
 use Rattle.entries.specs.Entry.{SHARED, MERGEABLE, frameOf, isOwned, isUnowned, entry, zeroEntry, wellFormed, toValidated, toFixed}
 use Rattle.entries.specs.Entry.{toUnfixed}
 use Rattle.entries.specs.Leaf.{presentAt}
@@ -36,6 +37,9 @@ pub record Put (s u : State) (f : ℕ) (e : Entry) : Type 0 where
 record MemoryOnly (s u : State) : Type 0 where
   pub same-size : SameSize s u
   pub entries : (g : ℕ) → entryAt u g ≡ entryAt s g
+
+nothing-yet : (s : State) → MemoryOnly s s
+nothing-yet s = record { same-size = size-refl s; entries = λ g. refl }
 
 memory-word : (s : State) (f i v : ℕ) → MemoryOnly s (withWord s f i v)
 memory-word s f i v = record { same-size = size-word s f i v; entries = λ g. entry-after-word s f i v g }
@@ -70,14 +74,11 @@ put-before f e p m =
 
 -- ---- RMPUPDATE
 cleared : (s : State) (f : ℕ) (t : Bool) → MemoryOnly s (pick t s (withZeros s f))
-unfolding pick
-cleared s f true = record { same-size = size-refl s; entries = λ g. refl }
-cleared s f false = memory-zeros s f
+cleared s f t = pick-either (MemoryOnly s) t _ _ (λ same. nothing-yet s) (λ other. memory-zeros s f)
 
 kept-beside : (s : State) (f g i : ℕ) (t : Bool) → g ≢ f → wordAt (pick t s (withZeros s f)) g i ≡ wordAt s g i
-unfolding pick
-kept-beside s f g i true apart = refl
-kept-beside s f g i false apart = word-beside-zeros s f g i apart
+kept-beside s f g i t apart =
+    pick-either (λ u. wordAt u g i ≡ wordAt s g i) t _ _ (λ same. refl) (λ other. word-beside-zeros s f g i apart)
 
 kept-here : (s : State) (f i : ℕ) (t : Bool) → wordAt (pick t s (withZeros s f)) f i ≡ pick t (wordAt s f i) 0
 unfolding pick
@@ -89,38 +90,33 @@ pub record Assigns (s u : State) (f : ℕ) (old e : Entry) : Type 0 where
   pub words : (g i : ℕ) → g ≢ f → wordAt u g i ≡ wordAt s g i
   pub words-here : (i : ℕ) → wordAt u f i ≡ pick (eqb (e .asid) (old .asid)) (wordAt s f i) 0
 
-pub assigning-does :
-    (s : State) (caller hpa gpa asid kind : ℕ) (old : Entry) → Updated s caller hpa gpa asid kind old
-    → Assigns s (assigning s (frameOf hpa) old gpa asid kind) (frameOf hpa) old (entry asid kind false false gpa)
-unfolding assigning entry
-assigning-does s caller hpa gpa asid kind old p =
-    record {
-      put = put-after (cleared s _ _) _ _ (p .inside) (update-fits caller hpa gpa asid kind (p .arguments) (N s));
-      words = λ g i apart. word-after-entry _ _ _ g i ∙ kept-beside s _ g i _ apart;
-      words-here = λ i. word-after-entry _ _ _ _ i ∙ kept-here s _ i _;
-    }
+module _ {s : State} {caller hpa gpa asid kind : ℕ} {old : Entry} (p : Updated s caller hpa gpa asid kind old) where
+  pub assigning-does : Assigns s (assigning s (frameOf hpa) old gpa asid kind) (frameOf hpa) old (entry asid kind false false gpa)
+  unfolding assigning entry
+  assigning-does =
+      record {
+        put = put-after (cleared s _ _) _ _ (p .inside) (update-fits caller hpa gpa asid kind (p .arguments) (N s));
+        words = λ g i apart. word-after-entry _ _ _ g i ∙ kept-beside s _ g i _ apart;
+        words-here = λ i. word-after-entry _ _ _ _ i ∙ kept-here s _ i _;
+      }
 
 -- ---- PVALIDATE
 pub record Validates (s u : State) (f : ℕ) (e : Entry) : Type 0 where
   pub put : Put s u f e
   pub words : (g i : ℕ) → wordAt u g i ≡ wordAt s g i
 
-nothing-yet : (s : State) → MemoryOnly s s
-nothing-yet s = record { same-size = size-refl s; entries = λ g. refl }
-
-pub validating-does :
-    (s : State) (caller gpa hpa kind : ℕ) (old : Entry) → Validated s caller gpa hpa kind old
-    → Validates s (validating s (frameOf hpa) old) (frameOf hpa) (entry caller kind true false gpa)
-unfolding validating toValidated
-validating-does s caller gpa hpa kind old p =
-    let t = validate-tells caller gpa hpa kind (p .arguments) in
-    let small = t .caller-small in
-    rw (p .owner, p .type, p .unfixed, p .address)
-    (record {
-      put = put-after (nothing-yet s) _ _ (p .inside)
-          (page-fits (N s) caller kind true gpa (t .owned) (omega (arith, p .guest)) small (t .guest-address));
-      words = λ g i. word-after-entry s _ _ g i;
-    })
+module _ {s : State} {caller gpa hpa kind : ℕ} {old : Entry} (p : Validated s caller gpa hpa kind old) where
+  pub validating-does : Validates s (validating s (frameOf hpa) old) (frameOf hpa) (entry caller kind true false gpa)
+  unfolding validating toValidated
+  validating-does =
+      let t = validate-tells caller gpa hpa kind (p .arguments) in
+      let small = t .caller-small in
+      rw (p .owner, p .type, p .unfixed, p .address)
+      (record {
+        put = put-after (nothing-yet s) _ _ (p .inside)
+            (page-fits (N s) caller kind true gpa (t .owned) (omega (arith, p .guest)) small (t .guest-address));
+        words = λ g i. word-after-entry s _ _ g i;
+      })
 
 -- ---- PFIX
 mergeable-owned : (kind : ℕ) → kind ≡ MERGEABLE → isOwned kind ≡ true
@@ -133,28 +129,27 @@ pub record Fixes (s u : State) (f leaf : ℕ) (old e : Entry) : Type 0 where
   pub owner-word : wordAt u leaf (old .asid) ≡ presentAt (old .address)
   pub other-words : (i : ℕ) → i ≢ old .asid → wordAt u leaf i ≡ 0
 
-pub fixing-does :
-    (s : State) (caller hpa leaf : ℕ) (old : Entry) → Fixed s caller hpa leaf old
-    → Fixes s (fixing s (frameOf hpa) old leaf) (frameOf hpa) (frameOf leaf) old (entry (old .asid) MERGEABLE true true leaf)
-unfolding fixing toFixed
-fixing-does s caller hpa leaf old p =
-    let z = sizes s (p .size) in
-    let t = entry-tells s _ old (p .here) in
-    let small = t .asid-small in
-    let inside = p .leaf-inside in
-    let least = z .memory-least in
-    let zeroed = withZeros s (frameOf leaf) in
-    let m : M zeroed ≡ M s = size-zeros s (frameOf leaf) .same-M in
-    let below : frameOf leaf < M zeroed = rw m (omega arith) in
-    rw (p .type, p .validated)
-    (record {
-      put = put-after (memory-both (memory-zeros s _) (memory-word _ _ _ _)) _ _ (p .inside)
-          (fixed-fits (N s) (old .asid) leaf (t .owned-asid (mergeable-owned _ (p .type))) small
-          (two-addresses caller hpa leaf (p .arguments) .1) inside);
-      words = λ g i apart. word-after-entry _ _ _ g i ∙ word-elsewhere _ _ _ _ g i apart ∙ word-beside-zeros s _ g i apart;
-      owner-word = word-after-entry _ _ _ _ _ ∙ word-after-word zeroed _ _ _ below small;
-      other-words = λ i apart. word-after-entry _ _ _ _ _ ∙ word-beside zeroed _ _ _ _ i apart ∙ word-after-zeros s _ i;
-    })
+module _ {s : State} {caller hpa leaf : ℕ} {old : Entry} (p : Fixed s caller hpa leaf old) where
+  pub fixing-does : Fixes s (fixing s (frameOf hpa) old leaf) (frameOf hpa) (frameOf leaf) old (entry (old .asid) MERGEABLE true true leaf)
+  unfolding fixing toFixed
+  fixing-does =
+      let z = sizes s (p .size) in
+      let t = entry-tells s _ old (p .here) in
+      let small = t .asid-small in
+      let inside = p .leaf-inside in
+      let least = z .memory-least in
+      let zeroed = withZeros s (frameOf leaf) in
+      let m : M zeroed ≡ M s = size-zeros s (frameOf leaf) .same-M in
+      let below : frameOf leaf < M zeroed = rw m (omega arith) in
+      rw (p .type, p .validated)
+      (record {
+        put = put-after (memory-both (memory-zeros s _) (memory-word _ _ _ _)) _ _ (p .inside)
+            (fixed-fits (N s) (old .asid) leaf (t .owned-asid (mergeable-owned _ (p .type))) small
+            (two-addresses caller hpa leaf (p .arguments) .1) inside);
+        words = λ g i apart. word-after-entry _ _ _ g i ∙ word-elsewhere _ _ _ _ g i apart ∙ word-beside-zeros s _ g i apart;
+        owner-word = word-after-entry _ _ _ _ _ ∙ word-after-word zeroed _ _ _ below small;
+        other-words = λ i apart. word-after-entry _ _ _ _ _ ∙ word-beside zeroed _ _ _ _ i apart ∙ word-after-zeros s _ i;
+      })
 
 -- ---- PMERGE, PUNMERGE and PUNFIX: the word that was consulted is in a LEAF, which is none of the named frames
 zero-fits : (n : ℕ) → wellFormed n zeroEntry ≡ true
@@ -170,25 +165,24 @@ pub record Merges (s u : State) (leaf f2 : ℕ) (two : Entry) : Type 0 where
   pub leaf-word : wordAt u leaf (two .asid) ≡ presentAt (two .address)
   pub leaf-words : (i : ℕ) → i ≢ two .asid → wordAt u leaf i ≡ wordAt s leaf i
 
-pub merging-does :
-    (s : State) (caller hpa1 hpa2 : ℕ) (one two : Entry) → Merged s caller hpa1 hpa2 one two
-    → Merges s (merging s one (frameOf hpa2) two) (leafFrame one) (frameOf hpa2) two
-unfolding merging
-merging-does s caller hpa1 hpa2 one two p =
-    let inside = leaf-inside s _ one (p .here1) (p .fixed1) in
-    let least = sizes s (p .size) .memory-least in
-    let small = entry-tells s _ two (p .here2) .asid-small in
-    let is-leaf = is-a-leaf s one (two .asid) (from-absent (p .no-place)) in
-    let apart = leaf-apart s _ _ two is-leaf (p .here2) (not-a-leaf MERGEABLE (p .type2) (omega arith)) in
-    record {
-      put = put-after (memory-both (memory-word s _ _ _) (memory-zeros _ _)) _ _ (p .inside2) (zero-fits (N s));
-      is-leaf = is-leaf;
-      apart = apart;
-      words = λ g i other off. word-after-entry _ _ _ g i ∙ word-beside-zeros _ _ g i other ∙ word-elsewhere s _ _ _ g i off;
-      zeroed = λ i. word-after-entry _ _ _ _ i ∙ word-after-zeros _ _ i;
-      leaf-word = word-after-entry _ _ _ _ _ ∙ word-beside-zeros _ _ _ _ apart ∙ word-after-word s _ _ _ (omega arith) small;
-      leaf-words = λ i other. word-after-entry _ _ _ _ i ∙ word-beside-zeros _ _ _ i apart ∙ word-beside s _ _ _ _ i other;
-    }
+module _ {s : State} {caller hpa1 hpa2 : ℕ} {one two : Entry} (p : Merged s caller hpa1 hpa2 one two) where
+  pub merging-does : Merges s (merging s one (frameOf hpa2) two) (leafFrame one) (frameOf hpa2) two
+  unfolding merging
+  merging-does =
+      let inside = leaf-inside s _ one (p .here1) (p .fixed1) in
+      let least = sizes s (p .size) .memory-least in
+      let small = entry-tells s _ two (p .here2) .asid-small in
+      let is-leaf = is-a-leaf s one (two .asid) (from-absent (p .no-place)) in
+      let apart = leaf-apart s _ _ two is-leaf (p .here2) (not-a-leaf MERGEABLE (p .type2) (omega arith)) in
+      record {
+        put = put-after (memory-both (memory-word s _ _ _) (memory-zeros _ _)) _ _ (p .inside2) (zero-fits (N s));
+        is-leaf = is-leaf;
+        apart = apart;
+        words = λ g i other off. word-after-entry _ _ _ g i ∙ word-beside-zeros _ _ g i other ∙ word-elsewhere s _ _ _ g i off;
+        zeroed = λ i. word-after-entry _ _ _ _ i ∙ word-after-zeros _ _ i;
+        leaf-word = word-after-entry _ _ _ _ _ ∙ word-beside-zeros _ _ _ _ apart ∙ word-after-word s _ _ _ (omega arith) small;
+        leaf-words = λ i other. word-after-entry _ _ _ _ i ∙ word-beside-zeros _ _ _ i apart ∙ word-beside s _ _ _ _ i other;
+      }
 
 pub record Unmerges (s u : State) (f1 f2 leaf asid : ℕ) (e : Entry) : Type 0 where
   pub put : Put s u f2 e
@@ -199,35 +193,33 @@ pub record Unmerges (s u : State) (f1 f2 leaf asid : ℕ) (e : Entry) : Type 0 w
   pub leaf-word : wordAt u leaf asid ≡ 0
   pub leaf-words : (i : ℕ) → i ≢ asid → wordAt u leaf i ≡ wordAt s leaf i
 
-pub unmerging-does :
-    (s : State) (caller hpa1 hpa2 asid : ℕ) (one two : Entry) (gpa : ℕ) → Unmerged s caller hpa1 hpa2 asid one two gpa
-    → Unmerges s (unmerging s (frameOf hpa1) one (frameOf hpa2) asid gpa) (frameOf hpa1) (frameOf hpa2) (leafFrame one) asid
-    (entry asid MERGEABLE true false gpa)
-unfolding unmerging
-unmerging-does s caller hpa1 hpa2 asid one two gpa p =
-    let inside = leaf-inside s _ one (p .here1) (p .fixed1) in
-    let least = sizes s (p .size) .memory-least in
-    let inside1 = p .inside1 in
-    let inside2 = p .inside2 in
-    let range = guest-range asid (unmerge-tells caller hpa1 hpa2 asid (p .arguments) .2) in
-    let is-leaf = is-a-leaf s one asid (from-present (p .place)) in
-    let apart = leaf-apart s _ _ two is-leaf (p .here2) (not-a-leaf SHARED (p .type2) (omega arith)) in
-    let address = consulted-address s one asid gpa (p .place) in
-    let fits = page-fits (N s) asid MERGEABLE true gpa (mergeable-owned _ refl) (range .0) (omega arith) address in
-    let e = entry asid MERGEABLE true false gpa in
-    let copy = withCopy s (frameOf hpa1) (frameOf hpa2) in
-    let moved = withEntry copy (frameOf hpa2) e in
-    let m : M moved ≡ M s = size-entry copy _ e .same-M ∙ size-copy s _ _ .same-M in
-    record {
-      put = put-before _ e (put-after (memory-copy s _ _) _ e (p .inside2) fits) (memory-word moved _ _ _);
-      is-leaf = is-leaf;
-      apart = apart;
-      words = λ g i other off. word-elsewhere moved _ _ _ g i off ∙ word-after-entry copy _ e g i ∙ word-beside-copy s _ _ g i other;
-      copied = λ i. word-elsewhere moved _ _ _ _ i (λ same. apart (sym same)) ∙ word-after-entry copy _ e _ i
-          ∙ word-after-copy s _ _ i (omega arith) (omega arith);
-      leaf-word = word-after-word moved _ _ _ (rw m (omega arith)) (omega arith);
-      leaf-words = λ i other. word-beside moved _ _ _ _ i other ∙ word-after-entry copy _ e _ i ∙ word-beside-copy s _ _ _ i apart;
-    }
+module _ {s : State} {caller hpa1 hpa2 asid : ℕ} {one two : Entry} {gpa : ℕ} (p : Unmerged s caller hpa1 hpa2 asid one two gpa) where
+  pub unmerging-does : Unmerges s (unmerging s (frameOf hpa1) one (frameOf hpa2) asid gpa) (frameOf hpa1) (frameOf hpa2) (leafFrame one) asid (entry asid MERGEABLE true false gpa)
+  unfolding unmerging
+  unmerging-does =
+      let inside = leaf-inside s _ one (p .here1) (p .fixed1) in
+      let least = sizes s (p .size) .memory-least in
+      let inside1 = p .inside1 in
+      let inside2 = p .inside2 in
+      let range = guest-range asid (unmerge-tells caller hpa1 hpa2 asid (p .arguments) .2) in
+      let is-leaf = is-a-leaf s one asid (from-present (p .place)) in
+      let apart = leaf-apart s _ _ two is-leaf (p .here2) (not-a-leaf SHARED (p .type2) (omega arith)) in
+      let address = consulted-address s one asid gpa (p .place) in
+      let fits = page-fits (N s) asid MERGEABLE true gpa (mergeable-owned _ refl) (range .0) (omega arith) address in
+      let e = entry asid MERGEABLE true false gpa in
+      let copy = withCopy s (frameOf hpa1) (frameOf hpa2) in
+      let moved = withEntry copy (frameOf hpa2) e in
+      let m : M moved ≡ M s = size-entry copy _ e .same-M ∙ size-copy s _ _ .same-M in
+      record {
+        put = put-before _ e (put-after (memory-copy s _ _) _ e (p .inside2) fits) (memory-word moved _ _ _);
+        is-leaf = is-leaf;
+        apart = apart;
+        words = λ g i other off. word-elsewhere moved _ _ _ g i off ∙ word-after-entry copy _ e g i ∙ word-beside-copy s _ _ g i other;
+        copied = λ i. word-elsewhere moved _ _ _ _ i (λ same. apart (sym same)) ∙ word-after-entry copy _ e _ i
+            ∙ word-after-copy s _ _ i (omega arith) (omega arith);
+        leaf-word = word-after-word moved _ _ _ (rw m (omega arith)) (omega arith);
+        leaf-words = λ i other. word-beside moved _ _ _ _ i other ∙ word-after-entry copy _ e _ i ∙ word-beside-copy s _ _ _ i apart;
+      }
 
 pub record Unfixes (s u : State) (f leaf : ℕ) (e : Entry) : Type 0 where
   pub same-size : SameSize s u
@@ -244,33 +236,32 @@ unfixed-is :
 unfolding toUnfixed
 unfixed-is e gpa k v = rw (k, v)
 
-pub unfixing-does :
-    (s : State) (caller hpa : ℕ) (old : Entry) (gpa : ℕ) → Unfixed s caller hpa old gpa
-    → Unfixes s (unfixing s (frameOf hpa) old gpa) (frameOf hpa) (leafFrame old) (entry (old .asid) MERGEABLE true false gpa)
-unfolding unfixing
-unfixing-does s caller hpa old gpa p =
-    let inside = leaf-inside s _ old (p .here) (p .fixed) in
-    let t = entry-tells s _ old (p .here) in
-    let is-leaf = is-a-leaf s old (old .asid) (from-present (p .place)) in
-    let apart = leaf-apart s _ _ old is-leaf (p .here) (not-a-leaf MERGEABLE (p .type) (omega arith)) in
-    let address = consulted-address s old (old .asid) gpa (p .place) in
-    let some = t .owned-asid (mergeable-owned _ (p .type)) in
-    let fits = page-fits (N s) (old .asid) MERGEABLE true gpa (mergeable-owned _ refl) some (t .asid-small) address in
-    let e = entry (old .asid) MERGEABLE true false gpa in
-    let first = put-after (nothing-yet s) (frameOf hpa) e (p .inside) fits in
-    let paged = withEntry s (frameOf hpa) e in
-    let n : N paged ≡ N s = size-entry s _ e .same-N in
-    let below : leafFrame old < N paged = rw n inside in
-    let freed = put-after (nothing-yet paged) (leafFrame old) zeroEntry below (zero-fits (N paged)) in
-    let second = put-before (leafFrame old) zeroEntry freed (memory-zeros _ (leafFrame old)) in
-    rw (unfixed-is old gpa (p .type) (t .fixed-validated (p .fixed)))
-    (record {
-      same-size = size-trans (first .same-size) (second .same-size);
-      is-leaf = is-leaf;
-      apart = apart;
-      here = second .elsewhere _ (λ same. apart (sym same)) ∙ first .here;
-      leaf-here = second .here;
-      elsewhere = λ g other off. second .elsewhere g off ∙ first .elsewhere g other;
-      words = λ g i off. word-beside-zeros _ _ g i off ∙ word-after-entry paged _ zeroEntry g i ∙ word-after-entry s _ e g i;
-      zeroed = λ i. word-after-zeros _ _ i;
-    })
+module _ {s : State} {caller hpa : ℕ} {old : Entry} {gpa : ℕ} (p : Unfixed s caller hpa old gpa) where
+  pub unfixing-does : Unfixes s (unfixing s (frameOf hpa) old gpa) (frameOf hpa) (leafFrame old) (entry (old .asid) MERGEABLE true false gpa)
+  unfolding unfixing
+  unfixing-does =
+      let inside = leaf-inside s _ old (p .here) (p .fixed) in
+      let t = entry-tells s _ old (p .here) in
+      let is-leaf = is-a-leaf s old (old .asid) (from-present (p .place)) in
+      let apart = leaf-apart s _ _ old is-leaf (p .here) (not-a-leaf MERGEABLE (p .type) (omega arith)) in
+      let address = consulted-address s old (old .asid) gpa (p .place) in
+      let some = t .owned-asid (mergeable-owned _ (p .type)) in
+      let fits = page-fits (N s) (old .asid) MERGEABLE true gpa (mergeable-owned _ refl) some (t .asid-small) address in
+      let e = entry (old .asid) MERGEABLE true false gpa in
+      let first = put-after (nothing-yet s) (frameOf hpa) e (p .inside) fits in
+      let paged = withEntry s (frameOf hpa) e in
+      let n : N paged ≡ N s = size-entry s _ e .same-N in
+      let below : leafFrame old < N paged = rw n inside in
+      let freed = put-after (nothing-yet paged) (leafFrame old) zeroEntry below (zero-fits (N paged)) in
+      let second = put-before (leafFrame old) zeroEntry freed (memory-zeros _ (leafFrame old)) in
+      rw (unfixed-is old gpa (p .type) (t .fixed-validated (p .fixed)))
+      (record {
+        same-size = size-trans (first .same-size) (second .same-size);
+        is-leaf = is-leaf;
+        apart = apart;
+        here = second .elsewhere _ (λ same. apart (sym same)) ∙ first .here;
+        leaf-here = second .here;
+        elsewhere = λ g other off. second .elsewhere g off ∙ first .elsewhere g other;
+        words = λ g i off. word-beside-zeros _ _ g i off ∙ word-after-entry paged _ zeroEntry g i ∙ word-after-entry s _ e g i;
+        zeroed = λ i. word-after-zeros _ _ i;
+      })

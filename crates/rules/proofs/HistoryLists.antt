@@ -95,7 +95,7 @@ pub record Cut (s : State) (past : List Made) (m : Made) (rest : List Made) : Ty
   pub this : Call
   pub later : List Call
   pub past-is : past ≡ history s earlier
-  pub this-is : m ≡ made (finally s earlier) this
+  pub this-is : m ≡ made this (finally s earlier) (step (finally s earlier) this)
   pub rest-is : rest ≡ history (step (finally s earlier) this .after) later
 
 pub cut :
@@ -108,7 +108,7 @@ cut s (call ∷ calls) [] m rest e =
     record { earlier = []; this = call; later = calls; past-is = refl; this-is = cc; rest-is = cc }
 cut s (call ∷ calls) (first ∷ past) m rest e =
     let c = cut (step s call .after) calls past m rest (cc) in
-    let same : made s call ≡ first = cc in
+    let same : made call s (step s call) ≡ first = cc in
     record {
       earlier = call ∷ c .earlier;
       this = c .this;

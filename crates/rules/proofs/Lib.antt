@@ -1,4 +1,5 @@
 -- The laws of the rules, which proofs cite instead of opening the definitions, and the proof of demand 3.
+pub mod Accepted
 pub mod AccessChanges
 pub mod ArgumentLaws
 pub mod AssignmentChanges
@@ -23,6 +24,9 @@ pub mod Run
 pub mod Sound
 pub mod SoundSteps
 pub mod StateLaws
+pub mod StepAnswers
 pub mod StepChanges
+pub mod Stepped
 pub mod Steps
 pub mod Sums
+pub mod WordsStay

@@ -28,12 +28,12 @@ use Rattle.rules.proofs.Sound.{Sound}
 use Rattle.rules.proofs.StateLaws.{sizes, equal-words, same-good}
 
 -- ---- PFIX
-module _ (s : State) (sound : Sound s) (caller hpa leaf : ℕ) (before : Entry) (p : Fixed s caller hpa leaf before) (guest : ℕ) where
+module _ {s : State} (sound : Sound s) {caller hpa leaf : ℕ} {before : Entry} (p : Fixed s caller hpa leaf before) (guest : ℕ) where
   abbrev fixedNow : State
   fixedNow = fixing s (frameOf hpa) before leaf
 
   fix-effect : Fixes s fixedNow (frameOf hpa) (frameOf leaf) before (entry (before .asid) MERGEABLE true true leaf)
-  fix-effect = fixing-does s caller hpa leaf before p
+  fix-effect = fixing-does p
 
   -- the page is the owner's place, by its entry before and by its word in the leaf after
   fixed-here : holding fixedNow guest (frameOf hpa) ≡ holding s guest (frameOf hpa)
@@ -42,11 +42,11 @@ module _ (s : State) (sound : Sound s) (caller hpa leaf : ℕ) (before : Entry) 
       ⊎-elim
       (λ own.
       rw (← own)
-      (present-there fixedNow _ _ _ (fix-effect .put .here) refl _ (fixed-owner s caller hpa leaf before p)
+      (present-there fixedNow _ _ _ (fix-effect .put .here) refl _ (fixed-owner p)
       ∙ sym (of-its-own s _ _ before (p .here) (p .unfixed) (p .validated) refl)))
       (λ other.
       absent-there fixedNow guest _ _ (fix-effect .put .here) refl
-      (fixed-others s caller hpa leaf before p guest (λ same. other (sym same)))
+      (fixed-others p guest (λ same. other (sym same)))
       ∙ sym (of-another s guest _ before (p .here) (p .unfixed) other))
       (same-or-not (before .asid) guest)
 
@@ -55,18 +55,18 @@ module _ (s : State) (sound : Sound s) (caller hpa leaf : ℕ) (before : Entry) 
       stays s fixedNow guest (fix-effect .put .same-size .same-N)
       (λ f. ⊎-elim (λ here. rw here fixed-here)
       (λ other. holding-same s fixedNow guest f (fix-effect .put .elsewhere f other)
-      (λ e here fixed. fixed-consulted s sound f e here fixed guest caller hpa leaf before p))
+      (λ e here fixed. fixed-consulted sound f here fixed guest p))
       (same-or-not f (frameOf hpa)))
       (λ f at i h. fix-effect .words f i (place-apart s guest at f _ h (leaf-nothing s guest _ (p .is-leaf))))
 
 -- ---- PUNFIX
-module _ (s : State) (sound : Sound s) (caller hpa : ℕ) (before : Entry) (gpa : ℕ) (p : Unfixed s caller hpa before gpa) (guest : ℕ)
+module _ {s : State} (sound : Sound s) {caller hpa : ℕ} {before : Entry} {gpa : ℕ} (p : Unfixed s caller hpa before gpa) (guest : ℕ)
     (range : isGuest guest ≡ true) where
   abbrev unfixedNow : State
   unfixedNow = unfixing s (frameOf hpa) before gpa
 
   unfix-effect : Unfixes s unfixedNow (frameOf hpa) (leafFrame before) (entry (before .asid) MERGEABLE true false gpa)
-  unfix-effect = unfixing-does s caller hpa before gpa p
+  unfix-effect = unfixing-does p
 
   -- no other guest has a word there
   unfixed-here : holding unfixedNow guest (frameOf hpa) ≡ holding s guest (frameOf hpa)
@@ -94,18 +94,18 @@ module _ (s : State) (sound : Sound s) (caller hpa : ℕ) (before : Entry) (gpa 
       (λ at. rw at (unopened unfixedNow guest _ _ (unfix-effect .leaf-here) refl refl
       ∙ sym (leaf-nothing s guest _ (unfix-effect .is-leaf))))
       (λ off. holding-same s unfixedNow guest f (unfix-effect .elsewhere f other off)
-      (λ e here fixed. unfixed-consulted s sound f e here fixed guest caller hpa before gpa p other))
+      (λ e here fixed. unfixed-consulted sound f here fixed guest p other))
       (same-or-not f (leafFrame before)))
       (same-or-not f (frameOf hpa)))
       (λ f at i h. unfix-effect .words f i (place-apart s guest at f _ h (leaf-nothing s guest _ (unfix-effect .is-leaf))))
 
 -- ---- PMERGE
-module _ (s : State) (sound : Sound s) (caller hpa1 hpa2 : ℕ) (one two : Entry) (p : Merged s caller hpa1 hpa2 one two) where
+module _ {s : State} (sound : Sound s) {caller hpa1 hpa2 : ℕ} {one two : Entry} (p : Merged s caller hpa1 hpa2 one two) where
   abbrev mergedNow : State
   mergedNow = merging s one (frameOf hpa2) two
 
   merge-effect : Merges s mergedNow (leafFrame one) (frameOf hpa2) two
-  merge-effect = merging-does s caller hpa1 hpa2 one two p
+  merge-effect = merging-does p
 
   -- frame 1 is fixed and frame 2 is not
   merge-apart : frameOf hpa1 ≢ frameOf hpa2
@@ -120,7 +120,7 @@ module _ (s : State) (sound : Sound s) (caller hpa1 hpa2 : ℕ) (one two : Entry
     merge-beside : (f : ℕ) → f ≢ frameOf hpa1 → f ≢ frameOf hpa2 → holding mergedNow guest f ≡ holding s guest f
     merge-beside f off away =
         holding-same s mergedNow guest f (merge-effect .put .elsewhere f away)
-        (λ e here fixed. merged-consulted s sound f e here fixed guest caller hpa1 hpa2 one two p off)
+        (λ e here fixed. merged-consulted sound f here fixed guest p off)
 
     merge-words : (f gpa i : ℕ) → f ≢ frameOf hpa2 → holding s guest f ≡ holds gpa → wordAt mergedNow f i ≡ wordAt s f i
     merge-words f gpa i away h =
@@ -142,7 +142,7 @@ module _ (s : State) (sound : Sound s) (caller hpa1 hpa2 : ℕ) (one two : Entry
         first =
             holding-same s mergedNow guest _ (merge-effect .put .elsewhere _ merge-apart)
             (λ e here fixed. rw (same-good s _ _ e one here (p .here1) refl)
-            (merged-others s caller hpa1 hpa2 one two p guest (λ same. other (sym same))))
+            (merged-others p guest (λ same. other (sym same))))
 
   -- the place of frame 2's owner moves from frame 2 to frame 1, whose words are the same
   merge-moves : Change s mergedNow noEvent (two .asid)
@@ -166,19 +166,19 @@ module _ (s : State) (sound : Sound s) (caller hpa1 hpa2 : ℕ) (one two : Entry
       to : holding mergedNow (two .asid) (frameOf hpa1) ≡ holds (two .address)
       to =
           present-there mergedNow _ _ one (merge-effect .put .elsewhere _ merge-apart ∙ p .here1) (p .fixed1) _
-          (merged-here s caller hpa1 hpa2 one two p)
+          (merged-here p)
 
   pub merge-change : (guest : ℕ) → Change s mergedNow noEvent guest
   merge-change guest = ⊎-elim (λ own. rw (← own) merge-moves) (merge-stays guest) (same-or-not (two .asid) guest)
 
 -- ---- PUNMERGE
-module _ (s : State) (sound : Sound s) (caller hpa1 hpa2 asid : ℕ) (one two : Entry) (gpa : ℕ)
+module _ {s : State} (sound : Sound s) {caller hpa1 hpa2 asid : ℕ} {one two : Entry} {gpa : ℕ}
     (p : Unmerged s caller hpa1 hpa2 asid one two gpa) where
   abbrev unmergedNow : State
   unmergedNow = unmerging s (frameOf hpa1) one (frameOf hpa2) asid gpa
 
   unmerge-effect : Unmerges s unmergedNow (frameOf hpa1) (frameOf hpa2) (leafFrame one) asid (entry asid MERGEABLE true false gpa)
-  unmerge-effect = unmerging-does s caller hpa1 hpa2 asid one two gpa p
+  unmerge-effect = unmerging-does p
 
   -- frame 1 is MERGEABLE and frame 2 is SHARED
   unmerge-apart : frameOf hpa1 ≢ frameOf hpa2
@@ -195,7 +195,7 @@ module _ (s : State) (sound : Sound s) (caller hpa1 hpa2 asid : ℕ) (one two : 
     unmerge-beside : (f : ℕ) → f ≢ frameOf hpa1 → f ≢ frameOf hpa2 → holding unmergedNow guest f ≡ holding s guest f
     unmerge-beside f off away =
         holding-same s unmergedNow guest f (unmerge-effect .put .elsewhere f away)
-        (λ e here fixed. unmerged-consulted s sound f e here fixed guest caller hpa1 hpa2 asid one two gpa p off)
+        (λ e here fixed. unmerged-consulted sound f here fixed guest p off)
 
     unmerge-words : (f at i : ℕ) → f ≢ frameOf hpa2 → holding s guest f ≡ holds at → wordAt unmergedNow f i ≡ wordAt s f i
     unmerge-words f at i away h =
@@ -214,7 +214,7 @@ module _ (s : State) (sound : Sound s) (caller hpa1 hpa2 asid : ℕ) (one two : 
         first =
             holding-same s unmergedNow guest _ (unmerge-effect .put .elsewhere _ unmerge-apart)
             (λ e here fixed. rw (same-good s _ _ e one here (p .here1) refl)
-            (unmerged-others s caller hpa1 hpa2 asid one two gpa p guest (λ same. other (sym same))))
+            (unmerged-others p guest (λ same. other (sym same))))
 
   -- the guest's place moves from frame 1 to its copy in frame 2
   unmerge-moves : Change s unmergedNow noEvent asid
@@ -224,7 +224,7 @@ module _ (s : State) (sound : Sound s) (caller hpa1 hpa2 asid : ℕ) (one two : 
       (present-there s _ _ one (p .here1) (p .fixed1) gpa (p .place))
       (unmerge-free asid)
       (absent-there unmergedNow _ _ one (unmerge-effect .put .elsewhere _ unmerge-apart ∙ p .here1) (p .fixed1)
-      (unmerged-here s caller hpa1 hpa2 asid one two gpa p))
+      (unmerged-here p))
       (of-its-own unmergedNow _ _ _ (unmerge-effect .put .here) refl refl refl)
       (unmerge-beside asid)
       (unmerge-effect .copied)

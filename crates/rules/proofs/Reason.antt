@@ -2,11 +2,11 @@
 -- asked that it is one of the seventeen. A holding that fails, and so a tally that stops, has met such a fault.
 -- Assumes nothing.
 use mathlib.Core.Path.{_≡_, refl}
-use mathlib.Core.Bool.{Bool, true, false, false≢true, not, _&&_}
+use mathlib.Core.Bool.{Bool, true, false≢true, not, _&&_}
 use Prim.Native.Nat.{ℕ, zero, suc, _<_, _≤_}
 use native.Mathlib.Omega.{arith}
 use lib.Dec.{leb, eqb}
-use Rattle.words.specs.Choice.{pick}
+use Rattle.words.proofs.ChoiceLaws.{pick-either}
 use Rattle.entries.specs.declared.entry.Entry.{Entry}
 use Rattle.entries.specs.declared.entry.Decoded.{Decoded}
 use Rattle.entries.specs.declared.entry.Decoded.the-variants.{Good, Bad}
@@ -40,18 +40,14 @@ module _ (s : State) (n : ℕ) where
   leaf-fails (Present gpa) broken h = absurd (false≢true (cc))
   leaf-fails Misshapen broken h = let same : BROKEN-LEAF ≡ n = cc in rw same at (broken refl)
 
-  pick-fails :
-      (t : Bool) (x y : Holding) → (t ≡ true → x ≡ fails n → Fault s n) → (y ≡ fails n → Fault s n) → pick t x y ≡ fails n
-      → Fault s n
-  unfolding pick
-  pick-fails true x y f g h = f refl h
-  pick-fails false x y f g h = g h
+  abbrev Failed : Holding → Type 0
+  Failed held = held ≡ fails n → Fault s n
 
   entry-fails : (guest f : ℕ) → f < N s → (d : Decoded) → entryAt s f ≡ d → inEntry s guest d ≡ fails n → Fault s n
   unfolding inEntry
   entry-fails guest f inside (Good e) here h =
-      pick-fails _ _ _ (λ fixed. leaf-fails _ (broken-leaf f e guest here fixed))
-      (pick-fails _ _ _ (λ valid u. absurd (false≢true (cc))) (λ u. absurd (false≢true (cc)))) h
+      pick-either Failed _ _ _ (λ fixed. leaf-fails _ (broken-leaf f e guest here fixed))
+      (λ unfixed. pick-either Failed _ _ _ (λ own u. absurd (false≢true (cc))) (λ other u. absurd (false≢true (cc)))) h
   entry-fails guest f inside Bad here h = let same : BAD-ENTRY ≡ n = cc in rw same at (bad-entry f inside here)
 
   holding-fails : (guest f : ℕ) → f < N s → holding s guest f ≡ fails n → Fault s n

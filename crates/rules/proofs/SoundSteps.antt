@@ -12,11 +12,14 @@ use Rattle.entries.specs.declared.entry.Decoded.the-variants.{Good, Bad}
 use Rattle.entries.specs.declared.leaf.LeafWord.{LeafWord}
 use Rattle.entries.specs.declared.leaf.LeafWord.the-variants.{Misshapen}
 use Rattle.entries.proofs.Tells.{false-not-true}
+use Rattle.rules.specs.Answers.{Told}
 use Rattle.rules.specs.Assignment.{assigning, validating}
-use Rattle.rules.specs.Calls.{Call, RMPUPDATE, PVALIDATE, PFIX, PMERGE, PUNMERGE, PUNFIX, READ, WRITE, CENSUS, step}
+use Rattle.rules.specs.Calls.{Call, step}
 use Rattle.rules.specs.Leaves.{leafFrame, consulted}
 use Rattle.rules.specs.Merging.{fixing, merging, unmerging, unfixing}
 use Rattle.rules.specs.State.{State, N, entryAt, withWord}
+use Rattle.rules.proofs.Accepted.{Accepted, by-update, by-validate, by-fix, by-merge, by-unmerge, by-unfix, by-read, by-write}
+use Rattle.rules.proofs.Accepted.{by-census}
 use Rattle.rules.proofs.ArgumentLaws.{two-addresses}
 use Rattle.rules.proofs.Consulted.{assigned-consulted, validated-consulted, fixed-consulted, merged-consulted, unmerged-consulted}
 use Rattle.rules.proofs.Consulted.{unfixed-consulted, written-consulted, fixed-owner, fixed-others, merged-here, merged-others}
@@ -24,11 +27,10 @@ use Rattle.rules.proofs.Consulted.{unmerged-here, unmerged-others}
 use Rattle.rules.proofs.Effects.{Put, assigning-does, validating-does, Fixes, fixing-does, merging-does, unmerging-does, Unfixes}
 use Rattle.rules.proofs.Effects.{unfixing-does}
 use Rattle.rules.proofs.Leaves.{unused-leaf, from-absent, from-present}
-use Rattle.rules.proofs.Passed.{Updated, Validated, Fixed, Merged, Unmerged, Unfixed, Way, rmpupdate-cases, pvalidate-cases}
-use Rattle.rules.proofs.Passed.{pfix-cases, pmerge-cases, punmerge-cases, punfix-cases, write-cases}
+use Rattle.rules.proofs.Passed.{Updated, Validated, Fixed, Merged, Unmerged, Unfixed, Way}
 use Rattle.rules.proofs.Sound.{Sound}
 use Rattle.rules.proofs.StateLaws.{entry-after-word, size-word, same-good, not-bad}
-use Rattle.rules.proofs.Steps.{read-keeps, census-keeps}
+use Rattle.rules.proofs.Stepped.{step-cases}
 
 -- a fixed page is not at a frame whose entry is not fixed
 unfixed-apart :
@@ -37,7 +39,7 @@ unfixed-apart :
 unfixed-apart u f e there unfixed g d here fixed same =
     false-not-true unfixed (rw (← (same-good u g f d e here there same)) fixed)
 
-module _ (s : State) (sound : Sound s) where
+module _ {s : State} (sound : Sound s) where
   -- a state with no fixed page that was not there before
   no-new-page :
       (u : State) → ((f : ℕ) → f < N u → entryAt u f ≡ Bad → ⊥)
@@ -68,81 +70,81 @@ module _ (s : State) (sound : Sound s) where
   still-unbroken g d guest page fixed same broken = sound .unbroken g d guest page fixed (sym same ∙ broken)
 
   assigning-sound :
-      (caller hpa gpa asid kind : ℕ) (old : Entry) → Updated s caller hpa gpa asid kind old
+      {caller hpa gpa asid kind : ℕ} {old : Entry} → Updated s caller hpa gpa asid kind old
       → Sound (assigning s (frameOf hpa) old gpa asid kind)
   unfolding entry
-  assigning-sound caller hpa gpa asid kind old p =
-      let e = assigning-does s caller hpa gpa asid kind old p .put in
+  assigning-sound p =
+      let e = assigning-does p .put in
       no-new-page _ (put-decodes e) (put-was e refl)
       (λ g d guest here fixed.
       let page = put-was e refl g d here fixed in
-      still-unbroken g d guest page fixed (assigned-consulted s sound g d page fixed guest caller hpa gpa asid kind old p))
+      still-unbroken g d guest page fixed (assigned-consulted sound g page fixed guest p))
 
   validating-sound :
-      (caller gpa hpa kind : ℕ) (old : Entry) → Validated s caller gpa hpa kind old → Sound (validating s (frameOf hpa) old)
+      {caller gpa hpa kind : ℕ} {old : Entry} → Validated s caller gpa hpa kind old → Sound (validating s (frameOf hpa) old)
   unfolding entry
-  validating-sound caller gpa hpa kind old p =
-      let e = validating-does s caller gpa hpa kind old p .put in
+  validating-sound p =
+      let e = validating-does p .put in
       no-new-page _ (put-decodes e) (put-was e refl)
       (λ g d guest here fixed.
       let page = put-was e refl g d here fixed in
-      still-unbroken g d guest page fixed (validated-consulted s sound g d page fixed guest caller gpa hpa kind old p))
+      still-unbroken g d guest page fixed (validated-consulted sound g page fixed guest p))
 
   merging-sound :
-      (caller hpa1 hpa2 : ℕ) (one two : Entry) → Merged s caller hpa1 hpa2 one two → Sound (merging s one (frameOf hpa2) two)
+      {caller hpa1 hpa2 : ℕ} {one two : Entry} → Merged s caller hpa1 hpa2 one two → Sound (merging s one (frameOf hpa2) two)
   unfolding zeroEntry entry
-  merging-sound caller hpa1 hpa2 one two p =
-      let e = merging-does s caller hpa1 hpa2 one two p .put in
+  merging-sound {hpa1 = hpa1} {hpa2 = hpa2} {one = one} {two = two} p =
+      let e = merging-does p .put in
       no-new-page _ (put-decodes e) (put-was e refl)
       (λ g d guest here fixed.
       let page = put-was e refl g d here fixed in
       ⊎-elim
       (λ same. rw (same-good s g _ d one page (p .here1) same) (in-leaf guest))
-      (λ other. still-unbroken g d guest page fixed (merged-consulted s sound g d page fixed guest caller hpa1 hpa2 one two p other))
+      (λ other. still-unbroken g d guest page fixed (merged-consulted sound g page fixed guest p other))
       (same-or-not g (frameOf hpa1)))
     where
       in-leaf : (guest : ℕ) → consulted (merging s one (frameOf hpa2) two) one guest ≡ Misshapen → ⊥
       in-leaf guest =
           ⊎-elim
-          (λ same. rw same (from-present (merged-here s caller hpa1 hpa2 one two p)))
-          (λ other. still-unbroken (frameOf hpa1) one guest (p .here1) (p .fixed1) (merged-others s caller hpa1 hpa2 one two p guest other))
+          (λ same. rw same (from-present (merged-here p)))
+          (λ other. still-unbroken (frameOf hpa1) one guest (p .here1) (p .fixed1) (merged-others p guest other))
           (same-or-not guest (two .asid))
 
   unmerging-sound :
-      (caller hpa1 hpa2 asid : ℕ) (one two : Entry) (gpa : ℕ) → Unmerged s caller hpa1 hpa2 asid one two gpa
+      {caller hpa1 hpa2 asid : ℕ} {one two : Entry} {gpa : ℕ} → Unmerged s caller hpa1 hpa2 asid one two gpa
       → Sound (unmerging s (frameOf hpa1) one (frameOf hpa2) asid gpa)
   unfolding entry
-  unmerging-sound caller hpa1 hpa2 asid one two gpa p =
-      let e = unmerging-does s caller hpa1 hpa2 asid one two gpa p .put in
+  unmerging-sound {hpa1 = hpa1} {hpa2 = hpa2} {asid = asid} {one = one} {gpa = gpa} p =
+      let e = unmerging-does p .put in
       no-new-page _ (put-decodes e) (put-was e refl)
       (λ g d guest here fixed.
       let page = put-was e refl g d here fixed in
       ⊎-elim
       (λ same. rw (same-good s g _ d one page (p .here1) same) (in-leaf guest))
       (λ other. still-unbroken g d guest page fixed
-      (unmerged-consulted s sound g d page fixed guest caller hpa1 hpa2 asid one two gpa p other))
+      (unmerged-consulted sound g page fixed guest p other))
       (same-or-not g (frameOf hpa1)))
     where
       in-leaf : (guest : ℕ) → consulted (unmerging s (frameOf hpa1) one (frameOf hpa2) asid gpa) one guest ≡ Misshapen → ⊥
       in-leaf guest =
           ⊎-elim
-          (λ same. rw same (from-absent (unmerged-here s caller hpa1 hpa2 asid one two gpa p)))
+          (λ same. rw same (from-absent (unmerged-here p)))
           (λ other. still-unbroken (frameOf hpa1) one guest (p .here1) (p .fixed1)
-          (unmerged-others s caller hpa1 hpa2 asid one two gpa p guest other))
+          (unmerged-others p guest other))
           (same-or-not guest asid)
 
   unfixing-sound :
-      (caller hpa : ℕ) (old : Entry) (gpa : ℕ) → Unfixed s caller hpa old gpa → Sound (unfixing s (frameOf hpa) old gpa)
+      {caller hpa : ℕ} {old : Entry} {gpa : ℕ} → Unfixed s caller hpa old gpa → Sound (unfixing s (frameOf hpa) old gpa)
   unfolding zeroEntry entry
-  unfixing-sound caller hpa old gpa p =
+  unfixing-sound {hpa = hpa} {old = old} {gpa = gpa} p =
       no-new-page _ decodes (λ g d here fixed. sym (e .elsewhere g (off g d here fixed .0) (off g d here fixed .1)) ∙ here)
       (λ g d guest here fixed.
       let apart = off g d here fixed in
       let page = sym (e .elsewhere g (apart .0) (apart .1)) ∙ here in
-      still-unbroken g d guest page fixed (unfixed-consulted s sound g d page fixed guest caller hpa old gpa p (apart .0)))
+      still-unbroken g d guest page fixed (unfixed-consulted sound g page fixed guest p (apart .0)))
     where
       e : Unfixes s (unfixing s (frameOf hpa) old gpa) (frameOf hpa) (leafFrame old) (entry (old .asid) MERGEABLE true false gpa)
-      e = unfixing-does s caller hpa old gpa p
+      e = unfixing-does p
 
       off : (g : ℕ) (d : Entry) → entryAt (unfixing s (frameOf hpa) old gpa) g ≡ Good d → d .fixed ≡ true
           → (g ≢ frameOf hpa) × (g ≢ leafFrame old)
@@ -157,19 +159,19 @@ module _ (s : State) (sound : Sound s) where
           (same-or-not g (leafFrame old)))
           (same-or-not g (frameOf hpa))
 
-  writing-sound : (caller gpa f gtype i value : ℕ) → Way s true caller gpa f gtype → Sound (withWord s f i value)
-  writing-sound caller gpa f gtype i value w =
+  writing-sound : {caller gpa f gtype : ℕ} (i value : ℕ) → Way s true caller gpa f gtype → Sound (withWord s f i value)
+  writing-sound {f = f} i value w =
       no-new-page _ (λ g inside bad. sound .decodes g (rw (← (size-word s f i value .same-N)) inside) (sym (same g) ∙ bad))
       (λ g d here fixed. sym (same g) ∙ here)
       (λ g d guest here fixed.
       let page = sym (same g) ∙ here in
-      still-unbroken g d guest page fixed (written-consulted s sound g d page fixed caller gpa f gtype i value guest w))
+      still-unbroken g d guest page fixed (written-consulted sound g page fixed i value guest w))
     where
       same : (g : ℕ) → entryAt (withWord s f i value) g ≡ entryAt s g
       same g = entry-after-word s f i value g
 
   -- PFIX makes one fixed page
-  module _ (caller hpa leaf : ℕ) (old : Entry) (p : Fixed s caller hpa leaf old) where
+  module _ {caller hpa leaf : ℕ} {old : Entry} (p : Fixed s caller hpa leaf old) where
     abbrev u : State
     u = fixing s (frameOf hpa) old leaf
 
@@ -177,7 +179,7 @@ module _ (s : State) (sound : Sound s) where
     new = entry (old .asid) MERGEABLE true true leaf
 
     e : Fixes s u (frameOf hpa) (frameOf leaf) old new
-    e = fixing-does s caller hpa leaf old p
+    e = fixing-does p
 
     was : (g : ℕ) (d : Entry) → entryAt u g ≡ Good d → g ≢ frameOf hpa → entryAt s g ≡ Good d
     was g d here other = sym (e .put .elsewhere g other) ∙ here
@@ -186,12 +188,12 @@ module _ (s : State) (sound : Sound s) where
     other-leaf : (g : ℕ) (d : Entry) → entryAt u g ≡ Good d → d .fixed ≡ true → g ≢ frameOf hpa → leafFrame d ≢ leafFrame new
     unfolding leafFrame entry
     other-leaf g d here fixed other =
-        unused-leaf s leaf g d (p .unused) (two-addresses caller hpa leaf (p .arguments) .1) (was g d here other) fixed
+        unused-leaf s leaf g d (p .unused) (two-addresses _ _ _ (p .arguments) .1) (was g d here other) fixed
 
     new-unbroken : (guest : ℕ) → consulted u new guest ≡ Misshapen → ⊥
     new-unbroken guest =
-        ⊎-elim (λ same. rw same (from-present (fixed-owner s caller hpa leaf old p)))
-        (λ other. from-absent (fixed-others s caller hpa leaf old p guest other))
+        ⊎-elim (λ same. rw same (from-present (fixed-owner p)))
+        (λ other. from-absent (fixed-others p guest other))
         (same-or-not guest (old .asid))
 
     fixing-alone :
@@ -216,27 +218,21 @@ module _ (s : State) (sound : Sound s) where
               ⊎-elim (λ same. rw (same-good u g _ d new here (e .put .here) same) (new-unbroken guest))
               (λ other.
               let page = was g d here other in
-              still-unbroken g d guest page fixed (fixed-consulted s sound g d page fixed guest caller hpa leaf old p))
+              still-unbroken g d guest page fixed (fixed-consulted sound g page fixed guest p))
               (same-or-not g (frameOf hpa));
         }
 
 -- ---- any call
+accepted-sound : {s after : State} {c : Call} {told : Told} → Sound s → Accepted s c told after → Sound after
+accepted-sound sound (by-update p) = assigning-sound sound p
+accepted-sound sound (by-validate p) = validating-sound sound p
+accepted-sound sound (by-fix p) = fixing-sound sound p
+accepted-sound sound (by-merge p) = merging-sound sound p
+accepted-sound sound (by-unmerge p) = unmerging-sound sound p
+accepted-sound sound (by-unfix p) = unfixing-sound sound p
+accepted-sound sound (by-read p) = sound
+accepted-sound sound (by-write p) = writing-sound sound _ _ (p .way)
+accepted-sound sound (by-census p) = sound
+
 pub step-sound : (s : State) (c : Call) → Sound s → Sound (step s c .after)
-unfolding step
-step-sound s (RMPUPDATE caller hpa gpa asid kind) sound =
-    rmpupdate-cases (λ o. Sound (o .after)) s (λ n why. sound) caller hpa gpa asid kind (assigning-sound s sound caller hpa gpa asid kind)
-step-sound s (PVALIDATE caller gpa hpa kind) sound =
-    pvalidate-cases (λ o. Sound (o .after)) s (λ n why. sound) caller gpa hpa kind (validating-sound s sound caller gpa hpa kind)
-step-sound s (PFIX caller hpa leaf) sound =
-    pfix-cases (λ o. Sound (o .after)) s (λ n why. sound) caller hpa leaf (fixing-sound s sound caller hpa leaf)
-step-sound s (PMERGE caller hpa1 hpa2) sound =
-    pmerge-cases (λ o. Sound (o .after)) s (λ n why. sound) caller hpa1 hpa2 (merging-sound s sound caller hpa1 hpa2)
-step-sound s (PUNMERGE caller hpa1 hpa2 asid) sound =
-    punmerge-cases (λ o. Sound (o .after)) s (λ n why. sound) caller hpa1 hpa2 asid (unmerging-sound s sound caller hpa1 hpa2 asid)
-step-sound s (PUNFIX caller hpa) sound =
-    punfix-cases (λ o. Sound (o .after)) s (λ n why. sound) caller hpa (unfixing-sound s sound caller hpa)
-step-sound s (READ caller gpa hpa gtype ntype index) sound = rw (read-keeps s caller gpa hpa gtype ntype index) sound
-step-sound s (WRITE caller gpa hpa gtype ntype index value) sound =
-    write-cases (λ o. Sound (o .after)) s (λ n why. sound) caller gpa hpa gtype ntype index value
-    (λ p. writing-sound s sound caller gpa (frameOf hpa) gtype index value (p .way))
-step-sound s (CENSUS asid) sound = rw (census-keeps s asid) sound
+step-sound s c sound = step-cases (λ o. Sound (o .after)) s c (λ n why. sound) (λ told after. accepted-sound sound)

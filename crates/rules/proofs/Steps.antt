@@ -1,73 +1,47 @@
 -- Laws of the calls: a refusal changes nothing and has a reason, READ, CENSUS and a PVALIDATE answered *already* change nothing, and no
--- call changes a size. Each goes by the cases of `Passed`: a refused call keeps the state, and an accepted one makes changes that are
--- known.
+-- call changes a size. Each is a law of refusals and of accepted calls.
 -- Assumes nothing.
 use mathlib.Core.Path.{_≡_, refl}
-use mathlib.Core.Bool.{Bool, true, false, false≢true}
+use mathlib.Core.Bool.{true, false≢true}
 use Prim.Native.Nat.{ℕ}
-use Rattle.words.specs.Choice.{pick}
+use Rattle.words.proofs.ChoiceLaws.{pick-either}
 use Rattle.entries.specs.declared.entry.Entry.{Entry}
 use Rattle.entries.specs.declared.entry.Decoded.the-variants.{Good}
 use Rattle.entries.proofs.Tells.{validated-is}
 use Rattle.rules.specs.Access.{read}
-use Rattle.rules.specs.Answers.{Told, refused, done, none, closed, opened, already, Outcome, outcome}
+use Rattle.rules.specs.Answers.{Told, refused, already}
 use Rattle.rules.specs.Assignment.{updateAnswer, validating, validateAnswer, pvalidate}
-use Rattle.rules.specs.Calls.{Call, RMPUPDATE, PVALIDATE, PFIX, PMERGE, PUNMERGE, PUNFIX, READ, WRITE, CENSUS, step}
+use Rattle.rules.specs.Calls.{Call, PVALIDATE, READ, CENSUS, step}
 use Rattle.rules.specs.Census.{census}
 use Rattle.rules.specs.State.{State, entryAt}
+use Rattle.rules.proofs.Accepted.{Accepted, by-update, by-validate, by-fix, by-merge, by-unmerge, by-unfix, by-read, by-write}
+use Rattle.rules.proofs.Accepted.{by-census}
 use Rattle.rules.proofs.Effects.{assigning-does, validating-does, fixing-does, merging-does, unmerging-does, unfixing-does}
-use Rattle.rules.proofs.Passed.{rmpupdate-cases, pvalidate-cases, pfix-cases, pmerge-cases, punmerge-cases, punfix-cases}
-use Rattle.rules.proofs.Passed.{read-cases, write-cases, census-cases}
 use Rattle.rules.proofs.Reason.{Reason}
 use Rattle.rules.proofs.StateLaws.{same-entry, SameSize, size-refl, size-word}
+use Rattle.rules.proofs.Stepped.{step-cases}
 
 -- ---- a refusal changes nothing, and has a reason
-abbrev RefusedFor : State → Outcome → Type 0
-RefusedFor s o = (n : ℕ) → o .told ≡ refused n → (o .after ≡ s) × Reason s n
+-- an accepted call answers no refusal
+not-refused : {s after : State} {c : Call} {told : Told} → Accepted s c told after → (n : ℕ) → told ≡ refused n → ⊥
+unfolding updateAnswer validateAnswer
+not-refused (by-update p) n =
+    pick-either (λ told. told ≡ refused n → ⊥) _ _ _ (λ v h. absurd (false≢true (cc))) (λ v h. absurd (false≢true (cc)))
+not-refused (by-validate p) n =
+    pick-either (λ told. told ≡ refused n → ⊥) _ _ _ (λ v h. absurd (false≢true (cc))) (λ v h. absurd (false≢true (cc)))
+not-refused (by-fix p) n = λ h. absurd (false≢true (cc))
+not-refused (by-merge p) n = λ h. absurd (false≢true (cc))
+not-refused (by-unmerge p) n = λ h. absurd (false≢true (cc))
+not-refused (by-unfix p) n = λ h. absurd (false≢true (cc))
+not-refused (by-read p) n = λ h. absurd (false≢true (cc))
+not-refused (by-write p) n = λ h. absurd (false≢true (cc))
+not-refused (by-census p) n = λ h. absurd (false≢true (cc))
 
-refused-kept : (s : State) (n : ℕ) → Reason s n → RefusedFor s (outcome (refused n) s)
-refused-kept s n why m h = let same : n ≡ m = cc in (refl, rw same at why)
-
--- an answer that is no refusal has nothing to show
-not-refused : (s : State) (a : Told) (u : State) → ((n : ℕ) → a ≡ refused n → ⊥) → RefusedFor s (outcome a u)
-not-refused s a u never n h = absurd (never n h)
-
-done-accepts : (n : ℕ) → done ≡ refused n → ⊥
-done-accepts n h = absurd (false≢true (cc))
-
-update-accepts : (old : Entry) (n : ℕ) → updateAnswer old ≡ refused n → ⊥
-unfolding updateAnswer pick
-update-accepts old n = go (old .validated)
-  where
-    go : (t : Bool) → pick t (closed (old .asid) (old .address)) none ≡ refused n → ⊥
-    go true h = absurd (false≢true (cc))
-    go false h = absurd (false≢true (cc))
-
-validate-accepts : (old : Entry) (n : ℕ) → validateAnswer old ≡ refused n → ⊥
-unfolding validateAnswer pick
-validate-accepts old n = go (old .validated)
-  where
-    go : (t : Bool) → pick t already opened ≡ refused n → ⊥
-    go true h = absurd (false≢true (cc))
-    go false h = absurd (false≢true (cc))
-
-refusal : (s : State) (c : Call) → RefusedFor s (step s c)
-unfolding step
-refusal s (RMPUPDATE caller hpa gpa asid kind) =
-    rmpupdate-cases (RefusedFor s) s (refused-kept s) caller hpa gpa asid kind (λ old p. not-refused s _ _ (update-accepts old))
-refusal s (PVALIDATE caller gpa hpa kind) =
-    pvalidate-cases (RefusedFor s) s (refused-kept s) caller gpa hpa kind (λ old p. not-refused s _ _ (validate-accepts old))
-refusal s (PFIX caller hpa leaf) = pfix-cases (RefusedFor s) s (refused-kept s) caller hpa leaf (λ old p. not-refused s _ _ done-accepts)
-refusal s (PMERGE caller hpa1 hpa2) =
-    pmerge-cases (RefusedFor s) s (refused-kept s) caller hpa1 hpa2 (λ one two p. not-refused s _ _ done-accepts)
-refusal s (PUNMERGE caller hpa1 hpa2 asid) =
-    punmerge-cases (RefusedFor s) s (refused-kept s) caller hpa1 hpa2 asid (λ one two gpa p. not-refused s _ _ done-accepts)
-refusal s (PUNFIX caller hpa) = punfix-cases (RefusedFor s) s (refused-kept s) caller hpa (λ old gpa p. not-refused s _ _ done-accepts)
-refusal s (READ caller gpa hpa gtype ntype index) =
-    read-cases (RefusedFor s) s (refused-kept s) caller gpa hpa gtype ntype index (λ p. not-refused s _ _ λ n h. absurd (false≢true (cc)))
-refusal s (WRITE caller gpa hpa gtype ntype index value) =
-    write-cases (RefusedFor s) s (refused-kept s) caller gpa hpa gtype ntype index value (λ p. not-refused s _ _ done-accepts)
-refusal s (CENSUS asid) = census-cases (RefusedFor s) s (refused-kept s) asid (λ m p. not-refused s _ _ λ n h. absurd (false≢true (cc)))
+refusal : (s : State) (c : Call) (n : ℕ) → step s c .told ≡ refused n → (step s c .after ≡ s) × Reason s n
+refusal s c n =
+    step-cases (λ o. o .told ≡ refused n → (o .after ≡ s) × Reason s n) s c
+    (λ m why h. let same : m ≡ n = cc in (refl, rw same at why))
+    (λ told after passed h. absurd (not-refused passed n h))
 
 pub refused-keeps : (s : State) (c : Call) (n : ℕ) → step s c .told ≡ refused n → step s c .after ≡ s
 refused-keeps s c n h = refusal s c n h .0
@@ -77,20 +51,24 @@ refused-why s c n h = refusal s c n h .1
 
 -- ---- READ and CENSUS change nothing
 pub read-keeps : (s : State) (caller gpa hpa gtype ntype index : ℕ) → read s caller gpa hpa gtype ntype index .after ≡ s
+unfolding step
 read-keeps s caller gpa hpa gtype ntype index =
-    read-cases (λ o. o .after ≡ s) s (λ n why. refl) caller gpa hpa gtype ntype index (λ p. refl)
+    step-cases (λ o. o .after ≡ s) s (READ caller gpa hpa gtype ntype index) (λ n why. refl) (λ told after. go)
+  where
+    go : {told : Told} {after : State} → Accepted s (READ caller gpa hpa gtype ntype index) told after → after ≡ s
+    go (by-read p) = refl
 
 pub census-keeps : (s : State) (asid : ℕ) → census s asid .after ≡ s
-census-keeps s asid = census-cases (λ o. o .after ≡ s) s (λ n why. refl) asid (λ n p. refl)
+unfolding step
+census-keeps s asid = step-cases (λ o. o .after ≡ s) s (CENSUS asid) (λ n why. refl) (λ told after. go)
+  where
+    go : {told : Told} {after : State} → Accepted s (CENSUS asid) told after → after ≡ s
+    go (by-census p) = refl
 
 -- ---- a PVALIDATE of a page that is validated already changes nothing
 answered-already : (old : Entry) → validateAnswer old ≡ already → old .validated ≡ true
-unfolding validateAnswer pick
-answered-already old = go (old .validated)
-  where
-    go : (t : Bool) → pick t already opened ≡ already → t ≡ true
-    go true h = refl
-    go false h = absurd (false≢true (cc))
+unfolding validateAnswer
+answered-already old = pick-either (λ told. told ≡ already → old .validated ≡ true) _ _ _ (λ v h. v) (λ v h. absurd (false≢true (cc)))
 
 pub validated-again :
     (s : State) (frame : ℕ) (old : Entry) → entryAt s frame ≡ Good old → old .validated ≡ true → validating s frame old ≡ s
@@ -99,33 +77,24 @@ validated-again s frame old here v = rw (validated-is old v) (same-entry s frame
 
 pub already-keeps :
     (s : State) (caller gpa hpa kind : ℕ) → pvalidate s caller gpa hpa kind .told ≡ already → pvalidate s caller gpa hpa kind .after ≡ s
+unfolding step
 already-keeps s caller gpa hpa kind =
-    pvalidate-cases (λ o. o .told ≡ already → o .after ≡ s) s (λ n why h. refl) caller gpa hpa kind
-    (λ old p h. validated-again s _ old (p .here) (answered-already old h))
+    step-cases (λ o. o .told ≡ already → o .after ≡ s) s (PVALIDATE caller gpa hpa kind) (λ n why h. refl) (λ told after. go)
+  where
+    go : {told : Told} {after : State} → Accepted s (PVALIDATE caller gpa hpa kind) told after → told ≡ already → after ≡ s
+    go (by-validate {old = old} p) h = validated-again s _ old (p .here) (answered-already old h)
 
 -- ---- no call changes a size
-abbrev SizeKept : State → Outcome → Type 0
-SizeKept s o = SameSize s (o .after)
+accepted-size : {s after : State} {c : Call} {told : Told} → Accepted s c told after → SameSize s after
+accepted-size (by-update p) = assigning-does p .put .same-size
+accepted-size (by-validate p) = validating-does p .put .same-size
+accepted-size (by-fix p) = fixing-does p .put .same-size
+accepted-size (by-merge p) = merging-does p .put .same-size
+accepted-size (by-unmerge p) = unmerging-does p .put .same-size
+accepted-size (by-unfix p) = unfixing-does p .same-size
+accepted-size (by-read p) = size-refl _
+accepted-size (by-write p) = size-word _ _ _ _
+accepted-size (by-census p) = size-refl _
 
 pub step-size : (s : State) (c : Call) → SameSize s (step s c .after)
-unfolding step
-step-size s (RMPUPDATE caller hpa gpa asid kind) =
-    rmpupdate-cases (SizeKept s) s (λ n why. size-refl s) caller hpa gpa asid kind
-    (λ old p. assigning-does s caller hpa gpa asid kind old p .put .same-size)
-step-size s (PVALIDATE caller gpa hpa kind) =
-    pvalidate-cases (SizeKept s) s (λ n why. size-refl s) caller gpa hpa kind
-    (λ old p. validating-does s caller gpa hpa kind old p .put .same-size)
-step-size s (PFIX caller hpa leaf) =
-    pfix-cases (SizeKept s) s (λ n why. size-refl s) caller hpa leaf (λ old p. fixing-does s caller hpa leaf old p .put .same-size)
-step-size s (PMERGE caller hpa1 hpa2) =
-    pmerge-cases (SizeKept s) s (λ n why. size-refl s) caller hpa1 hpa2
-    (λ one two p. merging-does s caller hpa1 hpa2 one two p .put .same-size)
-step-size s (PUNMERGE caller hpa1 hpa2 asid) =
-    punmerge-cases (SizeKept s) s (λ n why. size-refl s) caller hpa1 hpa2 asid
-    (λ one two gpa p. unmerging-does s caller hpa1 hpa2 asid one two gpa p .put .same-size)
-step-size s (PUNFIX caller hpa) =
-    punfix-cases (SizeKept s) s (λ n why. size-refl s) caller hpa (λ old gpa p. unfixing-does s caller hpa old gpa p .same-size)
-step-size s (READ caller gpa hpa gtype ntype index) = rw (read-keeps s caller gpa hpa gtype ntype index) (size-refl s)
-step-size s (WRITE caller gpa hpa gtype ntype index value) =
-    write-cases (SizeKept s) s (λ n why. size-refl s) caller gpa hpa gtype ntype index value (λ p. size-word s _ _ _)
-step-size s (CENSUS asid) = rw (census-keeps s asid) (size-refl s)
+step-size s c = step-cases (λ o. SameSize s (o .after)) s c (λ n why. size-refl s) (λ told after. accepted-size)

@@ -6,24 +6,25 @@ use Prim.Native.Nat.{ℕ, _+_, _≤_}
 use lib.Dec.{eqb}
 use Rattle.words.specs.Choice.{pick, _and_}
 use Rattle.entries.specs.Entry.{frameOf, isGuest, isOwned, bit}
-use Rattle.rules.specs.Answers.{Told, refused, done, none, closed, opened, already, word, count}
+use Rattle.rules.specs.Answers.{Told, refused, done, none, closed, opened, already, word, count, Outcome}
 use Rattle.rules.specs.Calls.{Call, RMPUPDATE, PVALIDATE, PFIX, PMERGE, PUNMERGE, PUNFIX, READ, WRITE, CENSUS, step}
 use Rattle.rules.specs.Census.{places}
 use Rattle.rules.specs.State.{State, emptyTable, wordAt}
 
--- a call as it was made: with the table and memory that it got, and its answer
+-- a call as it was made: with the table and memory that it got, its answer, and table and memory as it left them
 pub record Made : Type 0 where
   pub call : Call
   pub got : State
   pub told : Told
+  pub left : State
 
-abbrev pub made : State → Call → Made
-made s call = record { call = call; got = s; told = step s call .told }
+abbrev pub made : Call → State → Outcome → Made
+made call s o = record { call = call; got = s; told = o .told; left = o .after }
 
 -- "Each call gets both as the call before left them": a list of calls, as they were made
 unfoldable pub history : State → List Call → List Made
 history s [] = []
-history s (call ∷ rest) = made s call ∷ history (step s call .after) rest
+history s (call ∷ rest) = made call s (step s call) ∷ history (step s call .after) rest
 
 -- table and memory after a list of calls
 unfoldable pub finally : State → List Call → State

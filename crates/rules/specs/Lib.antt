@@ -12,3 +12,4 @@ pub mod Merging
 pub mod Refusals
 pub mod Run
 pub mod State
+pub mod Words

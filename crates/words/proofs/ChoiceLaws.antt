@@ -27,6 +27,11 @@ pub pick-false : {A : Type 0} {t : Bool} (a b : A) → t ≡ false → pick t a 
 unfolding pick
 pick-false a b e = rw e
 
+-- what holds of both holds of the choice
+pub pick-either : {A : Type 0} (P : A → Type 0) (t : Bool) (a b : A) → (t ≡ true → P a) → (t ≡ false → P b) → P (pick t a b)
+pick-either P true a b f g = rw (pick-true a b refl) (f refl)
+pick-either P false a b f g = rw (pick-false a b refl) (g refl)
+
 pub pick-same : {A : Type 0} (t : Bool) (a : A) → pick t a a ≡ a
 pick-same true a = pick-true _ _ refl
 pick-same false a = pick-false _ _ refl

@@ -1,4 +1,4 @@
--- `ffi::skorbilek_pmerge` meets its contract: the call's promise, carried through the flattening of its answer, makes a turn of a run.
+-- `ffi::skorbilek_pmerge` meets its contract: the call's promise, carried through the flattening of its answer, makes a call of a run.
 -- Assumes nothing.
 use borrow.Author.Needs.{needs}
 use Rattle.rules.specs.Calls.{step}

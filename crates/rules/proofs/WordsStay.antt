@@ -2,29 +2,27 @@
 -- into a word, or copies words.
 -- Assumes nothing.
 use mathlib.Core.Path.{_≡_}
-use mathlib.Core.Bool.{Bool, true, false}
 use mathlib.Core.List.{List, [], _∷_}
 use mathlib.Core.Logic.{⊎-elim}
 use Prim.Native.Nat.{ℕ, zero, suc, _+_, _*_, _<_, _^_}
 use native.Mathlib.Omega.{arith}
 use lib.ListN.{getD}
-use Rattle.words.specs.Choice.{pick}
 use Rattle.words.specs.Frame.{wordIn, frameCount}
-use Rattle.words.proofs.ChoiceLaws.{lt-or-le, same-or-not, bounds-either}
+use Rattle.words.proofs.ChoiceLaws.{lt-or-le, same-or-not, pick-either, bounds-either}
 use Rattle.words.proofs.FrameLaws.{put-outside, put-past, copy-outside-from, copy-outside-to}
 use Rattle.entries.specs.Leaf.{presentAt}
 use Rattle.entries.specs.declared.entry.Entry.{Entry}
-use Rattle.rules.specs.Answers.{Outcome}
+use Rattle.rules.specs.Answers.{Told}
 use Rattle.rules.specs.Assignment.{assigning, validating}
-use Rattle.rules.specs.Calls.{Call, RMPUPDATE, PVALIDATE, PFIX, PMERGE, PUNMERGE, PUNFIX, READ, WRITE, CENSUS, step}
+use Rattle.rules.specs.Calls.{Call}
 use Rattle.rules.specs.Merging.{fixing, merging, unmerging, unfixing}
 use Rattle.rules.specs.State.{State, M, wordAt, withEntry, withWord, withZeros, withCopy}
-use Rattle.rules.proofs.Passed.{rmpupdate-cases, pvalidate-cases, pfix-cases, pmerge-cases, punmerge-cases, punfix-cases, write-cases}
+use Rattle.rules.specs.Words.{AreWords, HoldsWords, numbers, WordsStay}
+use Rattle.rules.proofs.Accepted.{Accepted, by-update, by-validate, by-fix, by-merge, by-unmerge, by-unfix, by-read, by-write}
+use Rattle.rules.proofs.Accepted.{by-census}
 use Rattle.rules.proofs.StateLaws.{word-after-entry, word-after-word, word-elsewhere, word-beside, word-after-zeros, word-beside-zeros}
 use Rattle.rules.proofs.StateLaws.{word-after-copy, word-beside-copy}
-use Rattle.rules.proofs.Steps.{read-keeps, census-keeps}
-use Rattle.format.specs.Tells.{HoldsWords}
-use Rattle.format.specs.Written.{numbers, AreWords}
+use Rattle.rules.proofs.Stepped.{step-cases}
 
 -- ---- memory that is a list of 64-bit words
 word-small : (memory : List ℕ) (i : ℕ) → AreWords memory → getD memory i 0 < 2 ^ 64
@@ -88,18 +86,10 @@ present-small : (gpa : ℕ) → presentAt gpa < 2 ^ 64
 unfolding presentAt
 present-small gpa = omega arith
 
-either-words : (t : Bool) (s u : State) → HoldsWords s → HoldsWords u → HoldsWords (pick t s u)
-unfolding pick
-either-words true s u h k = h
-either-words false s u h k = k
-
 module _ (s : State) (words : HoldsWords s) where
-  abbrev After : Outcome → Type 0
-  After o = HoldsWords (o .after)
-
   assigned : (frame : ℕ) (old : Entry) (gpa asid kind : ℕ) → HoldsWords (assigning s frame old gpa asid kind)
   unfolding assigning
-  assigned frame old gpa asid kind = entry-words _ (either-words _ _ _ words (zero-words s words frame)) _ _
+  assigned frame old gpa asid kind = entry-words _ (pick-either HoldsWords _ _ _ (λ same. words) (λ other. zero-words s words frame)) _ _
 
   fixed : (frame : ℕ) (old : Entry) (leaf : ℕ) → HoldsWords (fixing s frame old leaf)
   unfolding fixing
@@ -117,19 +107,19 @@ module _ (s : State) (words : HoldsWords s) where
   unfolding unfixing
   unfixed frame old gpa = zero-words _ (entry-words _ (entry-words s words _ _) _ _) _
 
-  pub words-stay : (call : Call) → AreWords (numbers call) → HoldsWords (step s call .after)
-  unfolding step numbers validating
-  words-stay (RMPUPDATE caller hpa gpa asid kind) fit =
-      rmpupdate-cases After s (λ n why. words) caller hpa gpa asid kind (λ old p. assigned _ old gpa asid kind)
-  words-stay (PVALIDATE caller gpa hpa kind) fit =
-      pvalidate-cases After s (λ n why. words) caller gpa hpa kind (λ old p. entry-words s words _ _)
-  words-stay (PFIX caller hpa leaf) fit = pfix-cases After s (λ n why. words) caller hpa leaf (λ old p. fixed _ old leaf)
-  words-stay (PMERGE caller hpa1 hpa2) fit = pmerge-cases After s (λ n why. words) caller hpa1 hpa2 (λ one two p. merged one _ two)
-  words-stay (PUNMERGE caller hpa1 hpa2 asid) fit =
-      punmerge-cases After s (λ n why. words) caller hpa1 hpa2 asid (λ one two gpa p. unmerged _ one _ asid gpa)
-  words-stay (PUNFIX caller hpa) fit = punfix-cases After s (λ n why. words) caller hpa (λ old gpa p. unfixed _ old gpa)
-  words-stay (READ caller gpa hpa gtype ntype index) fit = rw (read-keeps s caller gpa hpa gtype ntype index) words
-  words-stay (WRITE caller gpa hpa gtype ntype index value) fit =
-      write-cases After s (λ n why. words) caller gpa hpa gtype ntype index value
-      (λ p. put-words s words _ _ _ (fit .1 .1 .1 .1 .1 .1 .0))
-  words-stay (CENSUS asid) fit = rw (census-keeps s asid) words
+accepted-words :
+    {s after : State} {c : Call} {told : Told} → HoldsWords s → AreWords (numbers c) → Accepted s c told after → HoldsWords after
+unfolding numbers validating
+accepted-words words fit (by-update p) = assigned _ words _ _ _ _ _
+accepted-words words fit (by-validate p) = entry-words _ words _ _
+accepted-words words fit (by-fix p) = fixed _ words _ _ _
+accepted-words words fit (by-merge p) = merged _ words _ _ _
+accepted-words words fit (by-unmerge p) = unmerged _ words _ _ _ _ _
+accepted-words words fit (by-unfix p) = unfixed _ words _ _ _
+accepted-words words fit (by-read p) = words
+accepted-words words fit (by-write p) = put-words _ words _ _ _ (fit .1 .1 .1 .1 .1 .1 .0)
+accepted-words words fit (by-census p) = words
+
+pub words-stay : WordsStay
+words-stay s call words fit =
+    step-cases (λ o. HoldsWords (o .after)) s call (λ n why. words) (λ told after. accepted-words words fit)
