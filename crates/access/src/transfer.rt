@@ -7,7 +7,7 @@ use crate::check;
 use checks::answer::Answer;
 use checks::gate::Gate;
 use entries::entry::frame_of;
-use words::frame;
+use frames::frame;
 
 // `caller` reads a word of its page at `gpa`, in the frame at `hpa`.
 pub fn read(

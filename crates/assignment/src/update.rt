@@ -1,7 +1,7 @@
 // RMPUPDATE: the host gives a frame to a guest, or takes it back.
 ghost use mathlib.Core.Path.{_≡_};
 ghost use Rattle.words.specs.Choice.{pick};
-ghost use Rattle.words.specs.Frame.{zeroFrame};
+ghost use Rattle.frames.specs.Frame.{zeros, putFrame};
 ghost use Rattle.entries.specs.Entry.{frameOf};
 ghost use Rattle.rules.specs.Answers.{grant, settle};
 ghost use Rattle.rules.specs.Assignment.{assigning, updateAnswer, rmpupdate};
@@ -16,8 +16,8 @@ use checks::passed::Page;
 use entries::entry::Entry;
 use entries::entry::frame_of;
 use entries::table;
+use frames::frame;
 use needs::gates;
-use words::frame;
 
 // The host gives the frame at `hpa` to the guest `asid` at its address `gpa`, as a page of the type `kind`, or takes it back.
 pub fn rmpupdate(
@@ -91,7 +91,7 @@ fn assign(
 
 // The frame is zeroed, unless its owner stays.
 fn zero_unless(memory: &mut [u64], frame: usize, stays: bool)
-    ensures { λ _. ⌜ now (memory .exit) ≡ pick stays (now (memory .entry)) (zeroFrame (now (memory .entry)) frame) ⌝ }
+    ensures { λ _. ⌜ now (memory .exit) ≡ pick stays (now (memory .entry)) (putFrame (now (memory .entry)) frame zeros) ⌝ }
 {
     if stays {
         return;

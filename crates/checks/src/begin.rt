@@ -18,7 +18,7 @@ use crate::gate::go_on;
 use entries::entry::frame_of;
 use entries::entry::is_guest;
 use entries::table;
-use words::frame;
+use frames::frame;
 
 // Whether table and memory have the sizes that the rules ask for.
 fn sizes_hold(table: &[u64], memory: &[u64]) -> bool

@@ -13,7 +13,7 @@ use entries::entry::frame_of;
 use entries::leaf::LeafWord;
 use entries::leaf::leaf_word;
 use entries::table;
-use words::frame;
+use frames::frame;
 
 fn is_leaf(decoded: Decoded) -> bool
     ensures { λ r. ⌜ r ≡ isLeaf decoded ⌝ }

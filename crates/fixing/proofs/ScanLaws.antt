@@ -13,9 +13,9 @@ use native.Mathlib.Omega.{arith}
 use lib.Dec.{eqb}
 use borrow.Author.Tests.{eq-eqb, ne-eqb}
 use Rattle.words.specs.Choice.{_and_, _or_}
-use Rattle.words.specs.Frame.{wordIn, oddIn}
 use Rattle.words.proofs.ChoiceLaws.{lt-or-le, and-not}
-use Rattle.words.proofs.FrameLaws.{word-past}
+use Rattle.frames.specs.Frame.{wordIn, oddIn}
+use Rattle.frames.proofs.FrameLaws.{word-past}
 use Rattle.entries.specs.Table.{entryIn, addressIn}
 use Rattle.entries.specs.declared.entry.Decoded.{Decoded}
 use Rattle.entries.specs.declared.entry.Decoded.the-variants.{Good, Bad}

@@ -7,7 +7,7 @@ ghost use Rattle.rules.specs.Leaves.{namesLeaf, leafInUse, stillShared};
 ghost use Rattle.rules.specs.State.{state};
 use entries::entry::Decoded;
 use entries::table;
-use words::frame;
+use frames::frame;
 
 fn names_leaf(decoded: Decoded, leaf: u64) -> bool
     ensures { λ r. ⌜ r ≡ namesLeaf decoded leaf ⌝ }

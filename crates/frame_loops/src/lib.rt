@@ -1,18 +1,18 @@
 // The loops over frames, exported for the benchmark alone: `bench` holds them against Rust's `fill`, `copy_within` and `==`.
 ghost use mathlib.Core.Path.{_≡_};
-ghost use Rattle.words.specs.Frame.{zeroFrame, copyFrame, differingIn};
-use words::frame;
+ghost use Rattle.frames.specs.Frame.{frameIn, zeros, putFrame, differingIn};
+use frames::frame;
 
 #[no_mangle]
 pub extern "C" fn skorbilek_frame_zero(memory: &mut [u64], frame: usize)
-    ensures { λ _. ⌜ now (memory .exit) ≡ zeroFrame (now (memory .entry)) frame ⌝ }
+    ensures { λ _. ⌜ now (memory .exit) ≡ putFrame (now (memory .entry)) frame zeros ⌝ }
 {
     frame::zero(memory, frame);
 }
 
 #[no_mangle]
 pub extern "C" fn skorbilek_frame_copy(memory: &mut [u64], from: usize, to: usize)
-    ensures { λ _. ⌜ now (memory .exit) ≡ copyFrame (now (memory .entry)) from to ⌝ }
+    ensures { λ _. ⌜ now (memory .exit) ≡ putFrame (now (memory .entry)) to (frameIn (now (memory .entry)) from) ⌝ }
 {
     frame::copy(memory, from, to);
 }

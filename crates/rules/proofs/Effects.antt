@@ -3,12 +3,14 @@
 -- Assumes nothing.
 use mathlib.Core.Path.{_≡_, refl, sym, _∙_}
 use mathlib.Core.Bool.{Bool, true, false}
+use mathlib.Core.List.{List}
 use mathlib.Core.Logic.{_≢_}
 use Prim.Native.Nat.{ℕ, _<_}
 use native.Mathlib.Omega.{arith}
 use lib.Dec.{eqb}
 use Rattle.words.specs.Choice.{pick, _or_}
 use Rattle.words.proofs.ChoiceLaws.{pick-either}
+use Rattle.frames.specs.Frame.{zeros}
 use Rattle.entries.specs.Entry.{SHARED, MERGEABLE, frameOf, isOwned, isUnowned, entry, zeroEntry, wellFormed, toValidated, toFixed}
 use Rattle.entries.specs.Entry.{toUnfixed}
 use Rattle.entries.specs.Leaf.{presentAt}
@@ -18,14 +20,14 @@ use Rattle.entries.proofs.Tells.{page-fits, fixed-fits, unowned-fits, guest-ran
 use Rattle.rules.specs.Assignment.{assigning, validating}
 use Rattle.rules.specs.Leaves.{leafFrame, isLeaf}
 use Rattle.rules.specs.Merging.{fixing, merging, unmerging, unfixing}
-use Rattle.rules.specs.State.{State, N, M, entryAt, wordAt, withEntry, withWord, withZeros, withCopy}
+use Rattle.rules.specs.State.{State, N, M, entryAt, wordAt, frameAt, withEntry, withWord, withFrame}
 use Rattle.rules.proofs.ArgumentLaws.{update-fits, validate-tells, two-addresses, unmerge-tells}
 use Rattle.rules.proofs.Leaves.{is-a-leaf, consulted-address, leaf-apart, not-a-leaf, leaf-inside, from-absent, from-present}
 use Rattle.rules.proofs.Passed.{Updated, Validated, Fixed, Merged, Unmerged, Unfixed}
-use Rattle.rules.proofs.StateLaws.{SameSize, size-refl, size-trans, size-entry, size-word, size-zeros, size-copy, sizes}
-use Rattle.rules.proofs.StateLaws.{entry-tells, entry-after-entry, entry-elsewhere, entry-after-word, entry-after-zeros}
-use Rattle.rules.proofs.StateLaws.{entry-after-copy, word-after-entry, word-after-word, word-elsewhere, word-beside}
-use Rattle.rules.proofs.StateLaws.{word-after-zeros, word-beside-zeros, word-after-copy, word-beside-copy}
+use Rattle.rules.proofs.StateLaws.{SameSize, size-refl, size-trans, size-entry, size-word, size-frame, sizes}
+use Rattle.rules.proofs.StateLaws.{entry-tells, entry-after-entry, entry-elsewhere, entry-after-word, entry-after-frame}
+use Rattle.rules.proofs.StateLaws.{word-after-entry, word-after-word, word-elsewhere, word-beside}
+use Rattle.rules.proofs.StateLaws.{word-beside-frame, word-after-zeros, word-after-copy}
 
 -- one entry is another, and every other is as it was
 pub record Put (s u : State) (f : ℕ) (e : Entry) : Type 0 where
@@ -44,11 +46,8 @@ nothing-yet s = record { same-size = size-refl s; entries = λ g. refl }
 memory-word : (s : State) (f i v : ℕ) → MemoryOnly s (withWord s f i v)
 memory-word s f i v = record { same-size = size-word s f i v; entries = λ g. entry-after-word s f i v g }
 
-memory-zeros : (s : State) (f : ℕ) → MemoryOnly s (withZeros s f)
-memory-zeros s f = record { same-size = size-zeros s f; entries = λ g. entry-after-zeros s f g }
-
-memory-copy : (s : State) (f to : ℕ) → MemoryOnly s (withCopy s f to)
-memory-copy s f to = record { same-size = size-copy s f to; entries = λ g. entry-after-copy s f to g }
+memory-frame : (s : State) (f : ℕ) (words : List ℕ) → MemoryOnly s (withFrame s f words)
+memory-frame s f words = record { same-size = size-frame s f words; entries = λ g. entry-after-frame s f words g }
 
 memory-both : {s u v : State} → MemoryOnly s u → MemoryOnly u v → MemoryOnly s v
 memory-both p q =
@@ -73,14 +72,14 @@ put-before f e p m =
     }
 
 -- ---- RMPUPDATE
-cleared : (s : State) (f : ℕ) (t : Bool) → MemoryOnly s (pick t s (withZeros s f))
-cleared s f t = pick-either (MemoryOnly s) t _ _ (λ same. nothing-yet s) (λ other. memory-zeros s f)
+cleared : (s : State) (f : ℕ) (t : Bool) → MemoryOnly s (pick t s (withFrame s f zeros))
+cleared s f t = pick-either (MemoryOnly s) t _ _ (λ same. nothing-yet s) (λ other. memory-frame s f zeros)
 
-kept-beside : (s : State) (f g i : ℕ) (t : Bool) → g ≢ f → wordAt (pick t s (withZeros s f)) g i ≡ wordAt s g i
+kept-beside : (s : State) (f g i : ℕ) (t : Bool) → g ≢ f → wordAt (pick t s (withFrame s f zeros)) g i ≡ wordAt s g i
 kept-beside s f g i t apart =
-    pick-either (λ u. wordAt u g i ≡ wordAt s g i) t _ _ (λ same. refl) (λ other. word-beside-zeros s f g i apart)
+    pick-either (λ u. wordAt u g i ≡ wordAt s g i) t _ _ (λ same. refl) (λ other. word-beside-frame s f zeros g i apart)
 
-kept-here : (s : State) (f i : ℕ) (t : Bool) → wordAt (pick t s (withZeros s f)) f i ≡ pick t (wordAt s f i) 0
+kept-here : (s : State) (f i : ℕ) (t : Bool) → wordAt (pick t s (withFrame s f zeros)) f i ≡ pick t (wordAt s f i) 0
 unfolding pick
 kept-here s f i true = refl
 kept-here s f i false = word-after-zeros s f i
@@ -138,15 +137,15 @@ module _ {s : State} {caller hpa leaf : ℕ} {old : Entry} (p : Fixed s caller h
       let small = t .asid-small in
       let inside = p .leaf-inside in
       let least = z .memory-least in
-      let zeroed = withZeros s (frameOf leaf) in
-      let m : M zeroed ≡ M s = size-zeros s (frameOf leaf) .same-M in
+      let zeroed = withFrame s (frameOf leaf) zeros in
+      let m : M zeroed ≡ M s = size-frame s (frameOf leaf) zeros .same-M in
       let below : frameOf leaf < M zeroed = rw m (omega arith) in
       rw (p .type, p .validated)
       (record {
-        put = put-after (memory-both (memory-zeros s _) (memory-word _ _ _ _)) _ _ (p .inside)
+        put = put-after (memory-both (memory-frame s _ _) (memory-word _ _ _ _)) _ _ (p .inside)
             (fixed-fits (N s) (old .asid) leaf (t .owned-asid (mergeable-owned _ (p .type))) small
             (two-addresses caller hpa leaf (p .arguments) .1) inside);
-        words = λ g i apart. word-after-entry _ _ _ g i ∙ word-elsewhere _ _ _ _ g i apart ∙ word-beside-zeros s _ g i apart;
+        words = λ g i apart. word-after-entry _ _ _ g i ∙ word-elsewhere _ _ _ _ g i apart ∙ word-beside-frame s _ _ g i apart;
         owner-word = word-after-entry _ _ _ _ _ ∙ word-after-word zeroed _ _ _ below small;
         other-words = λ i apart. word-after-entry _ _ _ _ _ ∙ word-beside zeroed _ _ _ _ i apart ∙ word-after-zeros s _ i;
       })
@@ -175,13 +174,13 @@ module _ {s : State} {caller hpa1 hpa2 : ℕ} {one two : Entry} (p : Merged s ca
       let is-leaf = is-a-leaf s one (two .asid) (from-absent (p .no-place)) in
       let apart = leaf-apart s _ _ two is-leaf (p .here2) (not-a-leaf MERGEABLE (p .type2) (omega arith)) in
       record {
-        put = put-after (memory-both (memory-word s _ _ _) (memory-zeros _ _)) _ _ (p .inside2) (zero-fits (N s));
+        put = put-after (memory-both (memory-word s _ _ _) (memory-frame _ _ _)) _ _ (p .inside2) (zero-fits (N s));
         is-leaf = is-leaf;
         apart = apart;
-        words = λ g i other off. word-after-entry _ _ _ g i ∙ word-beside-zeros _ _ g i other ∙ word-elsewhere s _ _ _ g i off;
+        words = λ g i other off. word-after-entry _ _ _ g i ∙ word-beside-frame _ _ _ g i other ∙ word-elsewhere s _ _ _ g i off;
         zeroed = λ i. word-after-entry _ _ _ _ i ∙ word-after-zeros _ _ i;
-        leaf-word = word-after-entry _ _ _ _ _ ∙ word-beside-zeros _ _ _ _ apart ∙ word-after-word s _ _ _ (omega arith) small;
-        leaf-words = λ i other. word-after-entry _ _ _ _ i ∙ word-beside-zeros _ _ _ i apart ∙ word-beside s _ _ _ _ i other;
+        leaf-word = word-after-entry _ _ _ _ _ ∙ word-beside-frame _ _ _ _ _ apart ∙ word-after-word s _ _ _ (omega arith) small;
+        leaf-words = λ i other. word-after-entry _ _ _ _ i ∙ word-beside-frame _ _ _ _ i apart ∙ word-beside s _ _ _ _ i other;
       }
 
 pub record Unmerges (s u : State) (f1 f2 leaf asid : ℕ) (e : Entry) : Type 0 where
@@ -194,7 +193,9 @@ pub record Unmerges (s u : State) (f1 f2 leaf asid : ℕ) (e : Entry) : Type 0 w
   pub leaf-words : (i : ℕ) → i ≢ asid → wordAt u leaf i ≡ wordAt s leaf i
 
 module _ {s : State} {caller hpa1 hpa2 asid : ℕ} {one two : Entry} {gpa : ℕ} (p : Unmerged s caller hpa1 hpa2 asid one two gpa) where
-  pub unmerging-does : Unmerges s (unmerging s (frameOf hpa1) one (frameOf hpa2) asid gpa) (frameOf hpa1) (frameOf hpa2) (leafFrame one) asid (entry asid MERGEABLE true false gpa)
+  pub unmerging-does :
+      Unmerges s (unmerging s (frameOf hpa1) one (frameOf hpa2) asid gpa) (frameOf hpa1) (frameOf hpa2) (leafFrame one) asid
+      (entry asid MERGEABLE true false gpa)
   unfolding unmerging
   unmerging-does =
       let inside = leaf-inside s _ one (p .here1) (p .fixed1) in
@@ -207,18 +208,18 @@ module _ {s : State} {caller hpa1 hpa2 asid : ℕ} {one two : Entry} {gpa : ℕ}
       let address = consulted-address s one asid gpa (p .place) in
       let fits = page-fits (N s) asid MERGEABLE true gpa (mergeable-owned _ refl) (range .0) (omega arith) address in
       let e = entry asid MERGEABLE true false gpa in
-      let copy = withCopy s (frameOf hpa1) (frameOf hpa2) in
+      let copy = withFrame s (frameOf hpa2) (frameAt s (frameOf hpa1)) in
       let moved = withEntry copy (frameOf hpa2) e in
-      let m : M moved ≡ M s = size-entry copy _ e .same-M ∙ size-copy s _ _ .same-M in
+      let m : M moved ≡ M s = size-entry copy _ e .same-M ∙ size-frame s _ _ .same-M in
       record {
-        put = put-before _ e (put-after (memory-copy s _ _) _ e (p .inside2) fits) (memory-word moved _ _ _);
+        put = put-before _ e (put-after (memory-frame s _ _) _ e (p .inside2) fits) (memory-word moved _ _ _);
         is-leaf = is-leaf;
         apart = apart;
-        words = λ g i other off. word-elsewhere moved _ _ _ g i off ∙ word-after-entry copy _ e g i ∙ word-beside-copy s _ _ g i other;
+        words = λ g i other off. word-elsewhere moved _ _ _ g i off ∙ word-after-entry copy _ e g i ∙ word-beside-frame s _ _ g i other;
         copied = λ i. word-elsewhere moved _ _ _ _ i (λ same. apart (sym same)) ∙ word-after-entry copy _ e _ i
             ∙ word-after-copy s _ _ i (omega arith) (omega arith);
         leaf-word = word-after-word moved _ _ _ (rw m (omega arith)) (omega arith);
-        leaf-words = λ i other. word-beside moved _ _ _ _ i other ∙ word-after-entry copy _ e _ i ∙ word-beside-copy s _ _ _ i apart;
+        leaf-words = λ i other. word-beside moved _ _ _ _ i other ∙ word-after-entry copy _ e _ i ∙ word-beside-frame s _ _ _ i apart;
       }
 
 pub record Unfixes (s u : State) (f leaf : ℕ) (e : Entry) : Type 0 where
@@ -237,7 +238,8 @@ unfolding toUnfixed
 unfixed-is e gpa k v = rw (k, v)
 
 module _ {s : State} {caller hpa : ℕ} {old : Entry} {gpa : ℕ} (p : Unfixed s caller hpa old gpa) where
-  pub unfixing-does : Unfixes s (unfixing s (frameOf hpa) old gpa) (frameOf hpa) (leafFrame old) (entry (old .asid) MERGEABLE true false gpa)
+  pub unfixing-does :
+      Unfixes s (unfixing s (frameOf hpa) old gpa) (frameOf hpa) (leafFrame old) (entry (old .asid) MERGEABLE true false gpa)
   unfolding unfixing
   unfixing-does =
       let inside = leaf-inside s _ old (p .here) (p .fixed) in
@@ -253,7 +255,7 @@ module _ {s : State} {caller hpa : ℕ} {old : Entry} {gpa : ℕ} (p : Unfixed s
       let n : N paged ≡ N s = size-entry s _ e .same-N in
       let below : leafFrame old < N paged = rw n inside in
       let freed = put-after (nothing-yet paged) (leafFrame old) zeroEntry below (zero-fits (N paged)) in
-      let second = put-before (leafFrame old) zeroEntry freed (memory-zeros _ (leafFrame old)) in
+      let second = put-before (leafFrame old) zeroEntry freed (memory-frame _ (leafFrame old) zeros) in
       rw (unfixed-is old gpa (p .type) (t .fixed-validated (p .fixed)))
       (record {
         same-size = size-trans (first .same-size) (second .same-size);
@@ -262,6 +264,6 @@ module _ {s : State} {caller hpa : ℕ} {old : Entry} {gpa : ℕ} (p : Unfixed s
         here = second .elsewhere _ (λ same. apart (sym same)) ∙ first .here;
         leaf-here = second .here;
         elsewhere = λ g other off. second .elsewhere g off ∙ first .elsewhere g other;
-        words = λ g i off. word-beside-zeros _ _ g i off ∙ word-after-entry paged _ zeroEntry g i ∙ word-after-entry s _ e g i;
+        words = λ g i off. word-beside-frame _ _ _ g i off ∙ word-after-entry paged _ zeroEntry g i ∙ word-after-entry s _ e g i;
         zeroed = λ i. word-after-zeros _ _ i;
       })

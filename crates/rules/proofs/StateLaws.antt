@@ -1,5 +1,5 @@
--- Table and memory as the rules read and change them: an entry after an entry was put or memory changed, a word after a word, a zeroing
--- or a copy, and that no change alters a size. In this crate only this file opens the state: all other proofs cite these laws. Each is a
+-- Table and memory as the rules read and change them: an entry after an entry was put or memory changed, a word after a word or a frame
+-- was put, and that no change alters a size. In this crate only this file opens the state: all other proofs cite these laws. Each is a
 -- law of the table or of a frame, carried over.
 -- Assumes nothing.
 use mathlib.Core.Path.{_≡_, refl, _∙_}
@@ -7,18 +7,20 @@ use mathlib.Core.Bool.{true, false, false≢true}
 use mathlib.Core.List.{List}
 use mathlib.Core.Logic.{_≢_}
 use Prim.Native.Nat.{ℕ, _≤_, _<_}
+use lib.ListN.{length, getD}
 use borrow.Author.Tests.{leb-true, ltb-true, ltb-false}
 use Rattle.words.proofs.ChoiceLaws.{and-left, and-right}
-use Rattle.words.proofs.FrameLaws.{count-putWord, count-zeroFrame, count-copyFrame, framed-putWord, framed-zeroFrame, framed-copyFrame}
-use Rattle.words.proofs.FrameLaws.{word-put-same, word-put-other-frame, word-put-other-index, word-zero-same}
-use Rattle.words.proofs.FrameLaws.{word-zero-other, word-copy-same, word-copy-other, same-words}
+use Rattle.frames.specs.Frame.{zeros}
+use Rattle.frames.proofs.FrameLaws.{count-putWord, framed-putWord, word-put-same, word-put-other-frame, word-put-other-index}
+use Rattle.frames.proofs.FrameLaws.{count-putFrame, framed-putFrame, word-frame-same, word-frame-other, word-zeroed, word-copied}
+use Rattle.frames.proofs.FrameLaws.{same-words}
 use Rattle.entries.specs.Entry.{frameOf, zeroEntry, wellFormed}
 use Rattle.entries.specs.declared.entry.Entry.{Entry}
 use Rattle.entries.specs.declared.entry.Decoded.the-variants.{Good, Bad}
 use Rattle.entries.proofs.TableLaws.{covered-put, whole-put, entry-put-same, entry-put-other, put-same, entry-good, entry-empty}
 use Rattle.entries.proofs.Tells.{Tells, tells}
-use Rattle.rules.specs.State.{State, emptyTable, N, M, sized, covers, entryAt, wordAt, differingAt, withEntry, withWord, withZeros}
-use Rattle.rules.specs.State.{withCopy}
+use Rattle.rules.specs.State.{State, emptyTable, N, M, sized, covers, entryAt, wordAt, frameAt, differingAt, withEntry, withWord}
+use Rattle.rules.specs.State.{withFrame}
 
 -- ---- sizes
 pub record Sizes (s : State) : Type 0 where
@@ -69,17 +71,11 @@ size-word s f i v =
     let m = count-putWord (s .memory) f i v in
     record { same-N = refl; same-M = m; same-sized = rw (m, framed-putWord (s .memory) f i v) }
 
-pub size-zeros : (s : State) (f : ℕ) → SameSize s (withZeros s f)
-unfolding withZeros N M sized
-size-zeros s f =
-    let m = count-zeroFrame (s .memory) f in
-    record { same-N = refl; same-M = m; same-sized = rw (m, framed-zeroFrame (s .memory) f) }
-
-pub size-copy : (s : State) (f g : ℕ) → SameSize s (withCopy s f g)
-unfolding withCopy N M sized
-size-copy s f g =
-    let m = count-copyFrame (s .memory) f g in
-    record { same-N = refl; same-M = m; same-sized = rw (m, framed-copyFrame (s .memory) f g) }
+pub size-frame : (s : State) (f : ℕ) (words : List ℕ) → SameSize s (withFrame s f words)
+unfolding withFrame N M sized
+size-frame s f words =
+    let m = count-putFrame (s .memory) f words in
+    record { same-N = refl; same-M = m; same-sized = rw (m, framed-putFrame (s .memory) f words) }
 
 -- ---- the frame at an address
 module _ (s : State) (hpa : ℕ) where
@@ -122,13 +118,9 @@ module _ (s : State) (f : ℕ) where
   unfolding entryAt withWord
   entry-after-word i v g = refl
 
-  pub entry-after-zeros : (g : ℕ) → entryAt (withZeros s f) g ≡ entryAt s g
-  unfolding entryAt withZeros
-  entry-after-zeros g = refl
-
-  pub entry-after-copy : (to g : ℕ) → entryAt (withCopy s f to) g ≡ entryAt s g
-  unfolding entryAt withCopy
-  entry-after-copy to g = refl
+  pub entry-after-frame : (words : List ℕ) (g : ℕ) → entryAt (withFrame s f words) g ≡ entryAt s g
+  unfolding entryAt withFrame
+  entry-after-frame words g = refl
 
 -- two readings of one frame are one entry, and not both good and bad
 pub same-good : (s : State) (g f : ℕ) (d e : Entry) → entryAt s g ≡ Good d → entryAt s f ≡ Good e → g ≡ f → d ≡ e
@@ -161,21 +153,22 @@ module _ (s : State) (f : ℕ) where
   unfolding wordAt withWord
   word-beside i v g j apart = word-put-other-index (s .memory) f i v g j apart
 
-  pub word-after-zeros : (i : ℕ) → wordAt (withZeros s f) f i ≡ 0
-  unfolding wordAt withZeros
-  word-after-zeros i = word-zero-same (s .memory) f i
+  pub word-after-frame : (words : List ℕ) (i : ℕ) → f < M s → length words ≡ 512 → wordAt (withFrame s f words) f i ≡ getD words i 0
+  unfolding wordAt withFrame M
+  word-after-frame words i h long = word-frame-same (s .memory) f words i h long
 
-  pub word-beside-zeros : (g i : ℕ) → g ≢ f → wordAt (withZeros s f) g i ≡ wordAt s g i
-  unfolding wordAt withZeros
-  word-beside-zeros g i apart = word-zero-other (s .memory) f g i apart
+  pub word-beside-frame : (words : List ℕ) (g i : ℕ) → g ≢ f → wordAt (withFrame s f words) g i ≡ wordAt s g i
+  unfolding wordAt withFrame
+  word-beside-frame words g i apart = word-frame-other (s .memory) f words g i apart
 
-  pub word-after-copy : (to i : ℕ) → f < M s → to < M s → wordAt (withCopy s f to) to i ≡ wordAt s f i
-  unfolding wordAt withCopy M
-  word-after-copy to i h k = word-copy-same (s .memory) f to i h k
+  -- a frame zeroed, and one that frame `from` is copied to
+  pub word-after-zeros : (i : ℕ) → wordAt (withFrame s f zeros) f i ≡ 0
+  unfolding wordAt withFrame
+  word-after-zeros i = word-zeroed (s .memory) f i
 
-  pub word-beside-copy : (to g i : ℕ) → g ≢ to → wordAt (withCopy s f to) g i ≡ wordAt s g i
-  unfolding wordAt withCopy
-  word-beside-copy to g i apart = word-copy-other (s .memory) f to g i apart
+  pub word-after-copy : (from i : ℕ) → from < M s → f < M s → wordAt (withFrame s f (frameAt s from)) f i ≡ wordAt s from i
+  unfolding wordAt withFrame frameAt M
+  word-after-copy from i h k = word-copied (s .memory) from f i h k
 
   -- two frames with no differing word
   pub equal-words : (g : ℕ) → differingAt s f g ≡ 0 → f < M s → g < M s → (i : ℕ) → wordAt s f i ≡ wordAt s g i

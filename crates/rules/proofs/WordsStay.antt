@@ -1,27 +1,27 @@
 -- Memory whose words fit into 64 bits stays so under a call whose numbers do: a call puts the value of a WRITE, an address and one, or zero
--- into a word, or copies words.
+-- into a word, zeroes a frame, or copies one.
 -- Assumes nothing.
 use mathlib.Core.Path.{_≡_}
 use mathlib.Core.List.{List, [], _∷_}
 use mathlib.Core.Logic.{⊎-elim}
 use Prim.Native.Nat.{ℕ, zero, suc, _+_, _*_, _<_, _^_}
 use native.Mathlib.Omega.{arith}
-use lib.ListN.{getD}
-use Rattle.words.specs.Frame.{wordIn, frameCount}
+use lib.ListN.{length, getD}
 use Rattle.words.proofs.ChoiceLaws.{lt-or-le, same-or-not, pick-either, bounds-either}
-use Rattle.words.proofs.FrameLaws.{put-outside, put-past, copy-outside-from, copy-outside-to}
+use Rattle.frames.specs.Frame.{frameCount, wordIn, zeros}
+use Rattle.frames.proofs.FrameLaws.{put-outside, put-past, frame-outside, frame-unlike, frame-had, frame-word, zeros-at}
 use Rattle.entries.specs.Leaf.{presentAt}
 use Rattle.entries.specs.declared.entry.Entry.{Entry}
 use Rattle.rules.specs.Answers.{Told}
 use Rattle.rules.specs.Assignment.{assigning, validating}
 use Rattle.rules.specs.Calls.{Call}
 use Rattle.rules.specs.Merging.{fixing, merging, unmerging, unfixing}
-use Rattle.rules.specs.State.{State, M, wordAt, withEntry, withWord, withZeros, withCopy}
+use Rattle.rules.specs.State.{State, M, wordAt, frameAt, withEntry, withWord, withFrame}
 use Rattle.rules.specs.Words.{AreWords, HoldsWords, numbers, WordsStay}
 use Rattle.rules.proofs.Accepted.{Accepted, by-update, by-validate, by-fix, by-merge, by-unmerge, by-unfix, by-read, by-write}
 use Rattle.rules.proofs.Accepted.{by-census}
-use Rattle.rules.proofs.StateLaws.{word-after-entry, word-after-word, word-elsewhere, word-beside, word-after-zeros, word-beside-zeros}
-use Rattle.rules.proofs.StateLaws.{word-after-copy, word-beside-copy}
+use Rattle.rules.proofs.StateLaws.{word-after-entry, word-after-word, word-elsewhere, word-beside, word-after-frame}
+use Rattle.rules.proofs.StateLaws.{word-beside-frame}
 use Rattle.rules.proofs.Stepped.{step-cases}
 
 -- ---- memory that is a list of 64-bit words
@@ -41,11 +41,6 @@ module _ (s : State) (words : HoldsWords s) where
   entry-words : (f : ℕ) (e : Entry) → HoldsWords (withEntry s f e)
   entry-words f e g j = rw (word-after-entry s f e g j) (words g j)
 
-  zero-words : (f : ℕ) → HoldsWords (withZeros s f)
-  zero-words f g j =
-      ⊎-elim (λ (same : g ≡ f). rw (same, word-after-zeros s f j) (omega arith)) (λ apart. rw (word-beside-zeros s f g j apart) (words g j))
-      (same-or-not g f)
-
   -- a word put there, or nothing changed
   module _ (f i v : ℕ) (small : v < 2 ^ 64) where
     put-there : wordAt (withWord s f i v) f i < 2 ^ 64
@@ -64,22 +59,31 @@ module _ (s : State) (words : HoldsWords s) where
         (λ apart. rw (word-elsewhere s f i v g j apart) (words g j))
         (same-or-not g f)
 
-  -- a frame copied, or nothing changed
-  module _ (from to : ℕ) where
-    copied-there : (j : ℕ) → wordAt (withCopy s from to) to j < 2 ^ 64
-    unfolding withCopy M
-    copied-there j =
+  -- a frame put there, or nothing changed
+  module _ (f : ℕ) (run : List ℕ) (small : (j : ℕ) → length run ≡ 512 → getD run j 0 < 2 ^ 64) where
+    frame-there : (j : ℕ) → wordAt (withFrame s f run) f j < 2 ^ 64
+    unfolding withFrame M
+    frame-there j =
         ⊎-elim
         (λ h.
-        ⊎-elim (λ k. rw (word-after-copy s from to j h k) (words from j)) (λ k. rw (copy-outside-to (s .memory) from to k) (words to j))
-        (lt-or-le to (M s)))
-        (λ h. rw (copy-outside-from (s .memory) from to h) (words to j))
-        (lt-or-le from (M s))
+        ⊎-elim (λ long. rw (word-after-frame s f run j h long) (small j long)) (λ not. rw (frame-unlike (s .memory) f run not) (words f j))
+        (same-or-not (length run) 512))
+        (λ h. rw (frame-outside (s .memory) f run h) (words f j))
+        (lt-or-le f (M s))
 
-    copy-words : HoldsWords (withCopy s from to)
-    copy-words g j =
-        ⊎-elim (λ (same : g ≡ to). rw same (copied-there j)) (λ apart. rw (word-beside-copy s from to g j apart) (words g j))
-        (same-or-not g to)
+    frame-words : HoldsWords (withFrame s f run)
+    frame-words g j =
+        ⊎-elim (λ (same : g ≡ f). rw same (frame-there j)) (λ apart. rw (word-beside-frame s f run g j apart) (words g j)) (same-or-not g f)
+
+  zero-words : (f : ℕ) → HoldsWords (withFrame s f zeros)
+  zero-words f = frame-words f zeros (λ j long. rw (zeros-at j) (omega arith))
+
+  word-of : (from j : ℕ) → length (frameAt s from) ≡ 512 → getD (frameAt s from) j 0 ≡ wordAt s from j
+  unfolding frameAt wordAt
+  word-of from j long = frame-word (s .memory) from j (frame-had (s .memory) from long)
+
+  copy-words : (from to : ℕ) → HoldsWords (withFrame s to (frameAt s from))
+  copy-words from to = frame-words to (frameAt s from) (λ j long. rw (word-of from j long) (words from j))
 
 -- ---- what is done
 present-small : (gpa : ℕ) → presentAt gpa < 2 ^ 64

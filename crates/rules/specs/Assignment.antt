@@ -3,17 +3,18 @@ use mathlib.Core.Bool.{false, not}
 use Prim.Native.Nat.{ℕ}
 use lib.Dec.{eqb}
 use Rattle.words.specs.Choice.{pick}
+use Rattle.frames.specs.Frame.{zeros}
 use Rattle.entries.specs.Entry.{LEAF, frameOf, entry, toValidated}
 use Rattle.entries.specs.declared.entry.Entry.{Entry}
 use Rattle.rules.specs.Answers.{Told, none, closed, opened, already, Outcome, grant, settle, unless, when, begins, entered}
 use Rattle.rules.specs.Arguments.{isHost, updateArguments, validateArguments}
 use Rattle.rules.specs.Refusals.{TYPE, OWNER, ADDRESS, FIXED}
-use Rattle.rules.specs.State.{State, covers, entryAt, withEntry, withZeros}
+use Rattle.rules.specs.State.{State, covers, entryAt, withEntry, withFrame}
 
 -- "new fields, both flags 0; the frame is zeroed if the ASID changed"
 unfoldable pub assigning : State → ℕ → Entry → ℕ → ℕ → ℕ → State
 assigning s frame old gpa asid kind =
-    withEntry (pick (eqb asid (old .asid)) s (withZeros s frame)) frame (entry asid kind false false gpa)
+    withEntry (pick (eqb asid (old .asid)) s (withFrame s frame zeros)) frame (entry asid kind false false gpa)
 
 -- "*closed* with the old ASID and GPA if VALIDATED was 1, else *none*"
 unfoldable pub updateAnswer : Entry → Told

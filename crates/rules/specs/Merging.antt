@@ -3,6 +3,7 @@ use mathlib.Core.Bool.{true, false}
 use Prim.Native.Nat.{ℕ}
 use lib.Dec.{eqb}
 use Rattle.words.specs.Choice.{_and_}
+use Rattle.frames.specs.Frame.{zeros}
 use Rattle.entries.specs.Entry.{SHARED, MERGEABLE, LEAF, frameOf, entry, zeroEntry, toFixed, toUnfixed}
 use Rattle.entries.specs.Leaf.{presentAt}
 use Rattle.entries.specs.declared.entry.Entry.{Entry}
@@ -10,12 +11,12 @@ use Rattle.rules.specs.Answers.{done, Outcome, grant, settle, unless, wh
 use Rattle.rules.specs.Arguments.{isHost, twoFrameArguments, unmergeArguments, oneFrameArguments}
 use Rattle.rules.specs.Leaves.{leafFrame, consulted, placed, vacant, leafInUse, stillShared}
 use Rattle.rules.specs.Refusals.{TYPE, NOT-VALIDATED, FIXED, NOT-FIXED, LEAF-IN-USE, CONTENTS, STILL-SHARED}
-use Rattle.rules.specs.State.{State, N, covers, entryAt, differingAt, withEntry, withWord, withZeros, withCopy}
+use Rattle.rules.specs.State.{State, N, covers, entryAt, frameAt, differingAt, withEntry, withWord, withFrame}
 
 -- "the leaf frame is zeroed, the owner's word in it is GPA + 1, the entry is FIXED with the leaf's address"
 unfoldable pub fixing : State → ℕ → Entry → ℕ → State
 fixing s frame old leaf =
-    withEntry (withWord (withZeros s (frameOf leaf)) (frameOf leaf) (old .asid) (presentAt (old .address))) frame (toFixed old leaf)
+    withEntry (withWord (withFrame s (frameOf leaf) zeros) (frameOf leaf) (old .asid) (presentAt (old .address))) frame (toFixed old leaf)
 
 -- PFIX: "5 (both), 6 (hpa not MERGEABLE or leaf not LEAF), 10, 9, 15."
 unfoldable pub pfix : State → ℕ → ℕ → ℕ → Outcome
@@ -32,7 +33,7 @@ pfix s caller hpa leaf =
 -- "that word is hpa2's GPA + 1; frame 2 is zeroed and its entry becomes two zero words"
 unfoldable pub merging : State → Entry → ℕ → Entry → State
 merging s one frame2 two =
-    withEntry (withZeros (withWord s (leafFrame one) (two .asid) (presentAt (two .address))) frame2) frame2 zeroEntry
+    withEntry (withFrame (withWord s (leafFrame one) (two .asid) (presentAt (two .address))) frame2 zeros) frame2 zeroEntry
 
 -- PMERGE: "5 (both), 6 (either not MERGEABLE), 11 (hpa1), 10 (hpa2), 9 (hpa2), 12, 14 (word of hpa2's ASID in hpa1's leaf), 16."
 unfoldable pub pmerge : State → ℕ → ℕ → ℕ → Outcome
@@ -51,7 +52,7 @@ pmerge s caller hpa1 hpa2 =
 -- "frame 1 is copied to frame 2; entry 2 is asid, MERGEABLE, VALIDATED, unfixed, with the leaf word's address; the leaf word is zeroed"
 unfoldable pub unmerging : State → ℕ → Entry → ℕ → ℕ → ℕ → State
 unmerging s frame1 one frame2 asid gpa =
-    withWord (withEntry (withCopy s frame1 frame2) frame2 (entry asid MERGEABLE true false gpa)) (leafFrame one) asid 0
+    withWord (withEntry (withFrame s frame2 (frameAt s frame1)) frame2 (entry asid MERGEABLE true false gpa)) (leafFrame one) asid 0
 
 -- PUNMERGE: "5 (both), 6 (hpa1 not MERGEABLE or hpa2 not SHARED), 11, 12, 13."
 unfoldable pub punmerge : State → ℕ → ℕ → ℕ → ℕ → Outcome
@@ -67,7 +68,7 @@ punmerge s caller hpa1 hpa2 asid =
 -- "GPA from that word, FIXED 0, VALIDATED stays; the leaf's entry and frame are zeroed"
 unfoldable pub unfixing : State → ℕ → Entry → ℕ → State
 unfixing s frame old gpa =
-    withZeros (withEntry (withEntry s frame (toUnfixed old gpa)) (leafFrame old) zeroEntry) (leafFrame old)
+    withFrame (withEntry (withEntry s frame (toUnfixed old gpa)) (leafFrame old) zeroEntry) (leafFrame old) zeros
 
 -- PUNFIX: "5, 6 (not MERGEABLE), 11, 12, 13 (the owner's word), 17." A leaf frame has 512 words.
 unfoldable pub punfix : State → ℕ → ℕ → Outcome

@@ -6,7 +6,7 @@ use Prim.Native.Nat.{ℕ}
 use lib.Dec.{leb, ltb}
 use lib.ListN.{replicate}
 use Rattle.words.specs.Choice.{_and_}
-use Rattle.words.specs.Frame.{frameCount, isFramed, wordIn, putWord, zeroFrame, copyFrame, differingIn}
+use Rattle.frames.specs.Frame.{frameCount, isFramed, wordIn, frameIn, putWord, putFrame, differingIn}
 use Rattle.entries.specs.Entry.{frameOf}
 use Rattle.entries.specs.Table.{covered, isWhole, entryIn, putEntry}
 use Rattle.entries.specs.declared.entry.Entry.{Entry}
@@ -39,25 +39,25 @@ sized s =
 unfoldable pub covers : State → ℕ → Bool
 covers s hpa = ltb (frameOf hpa) (N s)
 
--- what a frame holds: its entry, a word of it, and how many words of two frames differ
+-- what a frame holds: its entry, a word of it, all its words, and how many words of two frames differ
 unfoldable pub entryAt : State → ℕ → Decoded
 entryAt s frame = entryIn (s .table) frame
 
 unfoldable pub wordAt : State → ℕ → ℕ → ℕ
 wordAt s frame index = wordIn (s .memory) frame index
 
+unfoldable pub frameAt : State → ℕ → List ℕ
+frameAt s frame = frameIn (s .memory) frame
+
 unfoldable pub differingAt : State → ℕ → ℕ → ℕ
 differingAt s one two = differingIn (s .memory) one two
 
--- the changes: an entry, a word, a frame zeroed, a frame copied to another
+-- the changes: an entry, a word, all words of a frame
 unfoldable pub withEntry : State → ℕ → Entry → State
 withEntry s frame e = state (putEntry (s .table) frame e) (s .memory)
 
 unfoldable pub withWord : State → ℕ → ℕ → ℕ → State
 withWord s frame index value = state (s .table) (putWord (s .memory) frame index value)
 
-unfoldable pub withZeros : State → ℕ → State
-withZeros s frame = state (s .table) (zeroFrame (s .memory) frame)
-
-unfoldable pub withCopy : State → ℕ → ℕ → State
-withCopy s from to = state (s .table) (copyFrame (s .memory) from to)
+unfoldable pub withFrame : State → ℕ → List ℕ → State
+withFrame s frame words = state (s .table) (putFrame (s .memory) frame words)

@@ -1,5 +1,3 @@
 -- The laws that the proofs of `words`, and of the crates above it, cite.
 pub mod ChoiceLaws
-pub mod FrameLaws
-pub mod Laid
 pub mod RunLaws

@@ -1,3 +1,2 @@
-// Runs of 64-bit words, of any length, and the frames of a memory as such runs.
-pub mod frame;
+// Runs of 64-bit words, of any length.
 pub mod run;

@@ -6,12 +6,12 @@ use mathlib.Core.List.{List}
 use Prim.Native.Nat.{ℕ}
 use borrow.Author.Needs.{needs}
 use Rattle.words.specs.Choice.{pick}
-use Rattle.words.specs.Frame.{zeroFrame}
+use Rattle.frames.specs.Frame.{zeros, putFrame}
 use Rattle.entries.specs.Entry.{entry}
 use Rattle.entries.specs.Table.{putEntry}
 use Rattle.entries.specs.declared.entry.Entry.{Entry}
 use Rattle.rules.specs.Assignment.{assigning}
-use Rattle.rules.specs.State.{state, withEntry, withZeros}
+use Rattle.rules.specs.State.{state, withEntry, withFrame}
 use Rattle.assignment.proofs.update.assign.Statement.{statement}
 use Rattle.assignment.proofs.update.assign.Tie as tie
 
@@ -29,9 +29,9 @@ same-length-2 c = search needs
 
 assigned-by :
     (stays : Bool) (t m : List ℕ) (frame : ℕ) (e : Entry)
-    → withEntry (pick stays (state t m) (withZeros (state t m) frame)) frame e
-    ≡ state (putEntry t frame e) (pick stays m (zeroFrame m frame))
-unfolding pick withEntry withZeros
+    → withEntry (pick stays (state t m) (withFrame (state t m) frame zeros)) frame e
+    ≡ state (putEntry t frame e) (pick stays m (putFrame m frame zeros))
+unfolding pick withEntry withFrame
 assigned-by true t m frame e = refl
 assigned-by false t m frame e = refl
 

@@ -2,7 +2,7 @@
 -- Assumes nothing.
 use borrow.Author.Needs.{needs}
 use Rattle.rules.specs.Merging.{fixing}
-use Rattle.rules.specs.State.{withEntry, withWord, withZeros}
+use Rattle.rules.specs.State.{withEntry, withWord, withFrame}
 use Rattle.fixing.proofs.fix.fix.Statement.{statement}
 use Rattle.fixing.proofs.fix.fix.Tie as tie
 
@@ -31,7 +31,7 @@ same-length-2 : tie.Need-same-length-2
 same-length-2 c = search needs
 
 returns : tie.Need-returns
-unfolding fixing withEntry withWord withZeros
+unfolding fixing withEntry withWord withFrame
 returns c =
     let at-put = c .before .before in let at-to-fixed = at-put .before in
     let at-put-word = at-to-fixed .before .before .before .before in let at-present-at = at-put-word .before in

@@ -3,7 +3,7 @@
 use borrow.Author.Needs.{needs}
 use Rattle.rules.specs.Leaves.{leafFrame}
 use Rattle.rules.specs.Merging.{unfixing}
-use Rattle.rules.specs.State.{withEntry, withZeros}
+use Rattle.rules.specs.State.{withEntry, withFrame}
 use Rattle.fixing.proofs.unfix.unfix.Statement.{statement}
 use Rattle.fixing.proofs.unfix.unfix.Tie as tie
 
@@ -32,7 +32,7 @@ same-length-2 : tie.Need-same-length-2
 same-length-2 c = search needs
 
 returns : tie.Need-returns
-unfolding unfixing leafFrame withEntry withZeros
+unfolding unfixing leafFrame withEntry withFrame
 returns c =
     let at-zero2 = c .before .before in let at-put2 = at-zero2 .before .before .before .before in
     let at-zero = at-put2 .before .before in let at-put = at-zero .before .before .before in let at-to-unfixed = at-put .before in

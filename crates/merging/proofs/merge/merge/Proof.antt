@@ -3,7 +3,7 @@
 use borrow.Author.Needs.{needs}
 use Rattle.rules.specs.Leaves.{leafFrame}
 use Rattle.rules.specs.Merging.{merging}
-use Rattle.rules.specs.State.{withEntry, withWord, withZeros}
+use Rattle.rules.specs.State.{withEntry, withWord, withFrame}
 use Rattle.merging.proofs.merge.merge.Statement.{statement}
 use Rattle.merging.proofs.merge.merge.Tie as tie
 
@@ -32,7 +32,7 @@ same-length-2 : tie.Need-same-length-2
 same-length-2 c = search needs
 
 returns : tie.Need-returns
-unfolding merging leafFrame withEntry withWord withZeros
+unfolding merging leafFrame withEntry withWord withFrame
 returns c =
     let at-put = c .before .before in let at-zero2 = at-put .before .before in let at-zero = at-zero2 .before .before .before in
     let at-put-word = at-zero .before .before .before .before in let at-present-at = at-put-word .before in

@@ -2,7 +2,7 @@
 -- Assumes nothing.
 use borrow.Author.Needs.{needs}
 use Rattle.rules.specs.Leaves.{leafFrame}
-use Rattle.rules.specs.State.{withEntry, withWord, withCopy}
+use Rattle.rules.specs.State.{frameAt, withEntry, withWord, withFrame}
 use Rattle.merging.specs.Moved.{moving}
 use Rattle.merging.proofs.unmerge.unmerge.Statement.{statement}
 use Rattle.merging.proofs.unmerge.unmerge.Tie as tie
@@ -29,7 +29,7 @@ same-length-2 : tie.Need-same-length-2
 same-length-2 c = search needs
 
 returns : tie.Need-returns
-unfolding moving leafFrame withEntry withWord withCopy
+unfolding moving leafFrame frameAt withEntry withWord withFrame
 returns c =
     let at-put-word = c .before .before in let at-frame-of = at-put-word .before in
     let at-put = at-frame-of .before .before .before .before in let at-to-moved = at-put .before in

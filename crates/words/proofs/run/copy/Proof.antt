@@ -1,53 +1,80 @@
--- `words::run::copy` meets its contract: an array of as many words as `source` becomes `source`, and is then what is copied.
+-- `words::run::copy` meets its contract: after i turns the first i words of `source` are laid over the front of `target`.
 -- Assumes nothing.
-use mathlib.Core.Path.{_≡_, _∙_}
+use mathlib.Core.Path.{_≡_, sym, _∙_}
+use mathlib.Core.Logic.{⊎-elim}
+use Prim.Native.Nat.{_-_, _≤_, min}
 use native.Mathlib.Omega.{arith}
+use lib.ListN.{length, length-set}
+use lib.Seq.{paste, paste-zero}
 use borrow.Author.Needs.{needs}
-use Rattle.words.proofs.RunLaws.{copied-whole}
+use Rattle.words.specs.Run.{copied}
+use Rattle.words.proofs.RunLaws.{paste-next}
 use Rattle.words.proofs.run.copy.Statement.{statement}
 use Rattle.words.proofs.run.copy.Tie as tie
 
-slice-aggregate-copy-words : tie.Need-slice-aggregate-copy-words
-slice-aggregate-copy-words c = search needs
+abbrev Inv-loop : tie.InvT-loop
+Inv-loop target₀ source n i₀ target i =
+    (i ≤ n) × (n ≡ min (length target₀) (length source)) × (length target ≡ length target₀) × (target ≡ paste target₀ 0 source i)
 
-copy-words-requires : tie.Need-copy-words-requires
-copy-words-requires c κs = search needs
+abbrev μ-loop : tie.MeasureT-loop
+μ-loop target₀ source n i₀ target i = n - i
 
-slice-aggregate-copy-words-2 : tie.Need-slice-aggregate-copy-words-2
-slice-aggregate-copy-words-2 c = search needs
+loop-holds : tie.Need-loop-holds Inv-loop μ-loop
+loop-holds c =
+    let start = paste-zero (c .before .args .target .now) 0 (c .before .args .source .now) in
+    (search needs, ⊎-elim (λ w. omega arith) (λ w. omega arith) (c .if1 .came), search needs, start)
 
-copy-words-requires-2 : tie.Need-copy-words-requires-2
-copy-words-requires-2 c κs = search needs
+mul-target : tie.Need-mul-target Inv-loop μ-loop
+mul-target c = search needs
 
-same-length : tie.Need-same-length
+shared-slice-read-target : tie.Need-shared-slice-read-target Inv-loop μ-loop
+shared-slice-read-target c = search needs
+
+mul-target-2 : tie.Need-mul-target-2 Inv-loop μ-loop
+mul-target-2 c = search needs
+
+slice-write-target : tie.Need-slice-write-target Inv-loop μ-loop
+slice-write-target c = search needs
+
+add-i : tie.Need-add-i Inv-loop μ-loop
+add-i c = search needs
+
+loop-less : tie.Need-loop-less Inv-loop μ-loop
+loop-less c = search needs
+
+loop-again : tie.Need-loop-again Inv-loop μ-loop
+loop-again c =
+    let l = c .before .before .loop in
+    let a = c .before .before .before .before .args in (
+      omega arith,
+      l .inv .1,
+      simp length-set (l .inv .2),
+      rw (l .inv .3) (paste-next (a .target .now) (a .source .now) (l .i) (omega arith) (omega arith)),
+    )
+
+same-length : tie.Need-same-length Inv-loop μ-loop
 same-length c = search needs
 
-returns : tie.Need-returns
+returns : tie.Need-returns Inv-loop μ-loop
+unfolding copied
 returns c =
-    let at-copy = c .before .before .before .before .before .before in
-    let source = at-copy .before .before .before .before .before .before .args .source .now in
-    let held : at-copy .copy-words .last .0 ≡ source = at-copy .copy-words .ensures ∙ copied-whole _ source (omega arith) in
-    c .before .before .copy-words2 .ensures ∙ rw held
-
-copy-words-requires-3 : tie.Need-copy-words-requires-3
-copy-words-requires-3 c κs = search needs
-
-same-length-2 : tie.Need-same-length-2
-same-length-2 c = search needs
-
-returns-2 : tie.Need-returns-2
-returns-2 c = search needs
+    let a = c .before .before .before .args in
+    let all : c .before .loop .i ≡ min (length (a .target .now)) (length (a .source .now)) = omega arith in
+    rw (← all) (c .before .loop .inv .3)
 
 pub copy-spec : {M : Type 1} → statement M
 copy-spec =
     tie.close
     (tie.spec
-    slice-aggregate-copy-words
-    copy-words-requires
-    slice-aggregate-copy-words-2
-    copy-words-requires-2
+    Inv-loop
+    μ-loop
+    loop-holds
+    mul-target
+    shared-slice-read-target
+    mul-target-2
+    slice-write-target
+    add-i
+    loop-less
+    loop-again
     same-length
-    returns
-    copy-words-requires-3
-    same-length-2
-    returns-2)
+    returns)
