@@ -59,18 +59,3 @@ call!(Punfix = punfix(caller, hpa));
 call!(Read = read(caller, gpa, hpa, gtype, ntype, index));
 call!(Write = write(caller, gpa, hpa, gtype, ntype, index, value));
 call!(Census = census(asid));
-
-/// Our answer as the second implementation writes it, so that the two can be compared.
-pub fn common(answer: Result<skorbilek::Answer, skorbilek::Refusal>) -> second::Answer {
-    use skorbilek::Answer;
-    match answer {
-        Err(refusal) => second::Answer::Refused(refusal.number() as u8),
-        Ok(Answer::Done) => second::Answer::Done,
-        Ok(Answer::None) => second::Answer::None,
-        Ok(Answer::Closed { asid, gpa }) => second::Answer::Closed { asid, gpa },
-        Ok(Answer::Opened) => second::Answer::Opened,
-        Ok(Answer::Already) => second::Answer::Already,
-        Ok(Answer::Word(word)) => second::Answer::Word(word),
-        Ok(Answer::Count(count)) => second::Answer::Count(count),
-    }
-}

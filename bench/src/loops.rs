@@ -3,7 +3,7 @@
 use std::hint::black_box;
 use std::time::{Duration, Instant};
 
-use skorbilek::FRAME_WORDS;
+use common::layout::{memory_words, word_at, FRAME_WORDS};
 
 use crate::frames;
 use crate::meter::{Meter, Samples, Timed};
@@ -49,7 +49,7 @@ struct Frames {
 impl Frames {
     /// Frames of zeros.
     fn equal(frames: usize) -> Self {
-        let memory = Words::new(FRAME_WORDS * frames);
+        let memory = Words::new(memory_words(frames));
         Self { memory, frames }
     }
 
@@ -57,7 +57,7 @@ impl Frames {
     fn differ(frames: usize, index: usize) -> Self {
         let mut differing = Self::equal(frames);
         for frame in 0..frames {
-            differing.memory.all()[FRAME_WORDS * frame + index] = frame as u64;
+            differing.memory.all()[word_at(frame, index)] = frame as u64;
         }
         differing
     }
@@ -94,7 +94,7 @@ impl Meter {
 /// Holds the proved loops against Rust's on frames of random words, some of them equal.
 fn check() {
     let mut random = Random::new();
-    let mut ours: Vec<u64> = (0..FRAME_WORDS * 4).map(|_| random.word()).collect();
+    let mut ours: Vec<u64> = (0..memory_words(4)).map(|_| random.word()).collect();
     let mut second = ours.clone();
     for _ in 0..32 {
         let (one, two) = (random.below(4), random.below(4));
@@ -109,7 +109,7 @@ fn check() {
             slices::copy(&mut second, one, two);
         }
         assert!(ours == second);
-        ours[FRAME_WORDS * two + random.below(FRAME_WORDS)] ^= random.word();
+        ours[word_at(two, random.below(FRAME_WORDS))] ^= random.word();
         second.copy_from_slice(&ours);
     }
 }

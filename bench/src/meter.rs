@@ -2,7 +2,9 @@
 
 use std::time::Duration;
 
-use crate::calls::{common, Call};
+use common::answer::translated;
+
+use crate::calls::Call;
 use crate::scene::{Nobody, Ours, Scene, Second};
 
 /// How much is measured.
@@ -118,7 +120,7 @@ fn check<C: Call, const T: usize, const M: usize>(
     for (place, turn) in one.turns.iter().take(CHECKED).enumerate() {
         let (table1, memory1) = one.world.slices();
         let (table2, memory2) = two.world.slices();
-        let answer = common(turn.call.ours(table1, memory1));
+        let answer = translated(turn.call.ours(table1, memory1));
         assert_eq!(answer, turn.call.second(table2, memory2));
         match (answer, expect) {
             (second::Answer::Refused(number), Expect::Refused(expected)) => {

@@ -1,4 +1,5 @@
-//! Numbers that look random and are the same in every run.
+//! Numbers that look random and are the same in every run. They are the benchmark's own: what it measures depends on them, a mixed table
+//! of few frames most of all.
 
 /// A xorshift generator.
 pub struct Random(u64);

@@ -1,33 +1,28 @@
 //! What the proved loops over frames are held against: Rust's slice methods, each in a function of its own, as the proved ones are.
 
-use skorbilek::FRAME_WORDS;
+use common::layout::frame_at;
 
 /// Makes all words of a frame zero.
 #[inline(never)]
 pub fn zero(memory: &mut [u64], frame: usize) {
-    memory[FRAME_WORDS * frame..][..FRAME_WORDS].fill(0);
+    memory[frame_at(frame)].fill(0);
 }
 
 /// Copies a frame to another.
 #[inline(never)]
 pub fn copy(memory: &mut [u64], from: usize, to: usize) {
-    let start = FRAME_WORDS * from;
-    memory.copy_within(start..start + FRAME_WORDS, FRAME_WORDS * to);
+    memory.copy_within(frame_at(from), frame_at(to).start);
 }
 
 /// How many words of two frames differ.
 #[inline(never)]
 pub fn differing(memory: &[u64], one: usize, two: usize) -> u64 {
-    let pairs = words(memory, one).iter().zip(words(memory, two));
+    let pairs = memory[frame_at(one)].iter().zip(&memory[frame_at(two)]);
     pairs.filter(|(one, two)| one != two).count() as u64
 }
 
 /// Whether two frames are equal.
 #[inline(never)]
 pub fn equal(memory: &[u64], one: usize, two: usize) -> bool {
-    words(memory, one) == words(memory, two)
-}
-
-fn words(memory: &[u64], frame: usize) -> &[u64] {
-    &memory[FRAME_WORDS * frame..][..FRAME_WORDS]
+    memory[frame_at(one)] == memory[frame_at(two)]
 }

@@ -2,11 +2,10 @@
 
 use std::hint::black_box;
 
-use skorbilek::{ENTRY_WORDS, FRAME_BYTES, FRAME_WORDS, LEAF, MERGEABLE, PRIVATE};
-
-const KIND_SHIFT: u32 = 16;
-const VALIDATED: u64 = 1 << 18;
-const FIXED: u64 = 1 << 19;
+use common::layout::{
+    address, memory_words, present, table_words, word_at, Entry, FRAME_BYTES, FRAME_WORDS,
+    MERGEABLE, PRIVATE,
+};
 
 /// Words whose first one stands at the start of a page of the machine.
 #[derive(PartialEq)]
@@ -45,8 +44,8 @@ impl World {
     pub fn new(n: usize) -> Self {
         Self {
             n,
-            table: Words::new(ENTRY_WORDS * n),
-            memory: Words::new(FRAME_WORDS * if n == 8 { 10 } else { 2 * n }),
+            table: Words::new(table_words(n)),
+            memory: Words::new(memory_words(if n == 8 { 10 } else { 2 * n })),
         }
     }
 
@@ -61,37 +60,31 @@ impl World {
     }
 
     /// Stores an entry.
-    pub fn put(&mut self, frame: usize, entry: [u64; ENTRY_WORDS]) {
-        self.table.all()[ENTRY_WORDS * frame..][..ENTRY_WORDS].copy_from_slice(&entry);
+    pub fn put(&mut self, frame: usize, entry: Entry) {
+        entry.put(self.table.all(), frame);
     }
 
     /// The entry of a frame.
-    pub fn entry(&mut self, frame: usize) -> [u64; ENTRY_WORDS] {
-        let table = self.table.all();
-        [table[ENTRY_WORDS * frame], table[ENTRY_WORDS * frame + 1]]
+    pub fn entry(&mut self, frame: usize) -> Entry {
+        Entry::at(self.table.all(), frame)
     }
 
     /// Stores a word of a frame.
     pub fn set(&mut self, frame: usize, index: usize, word: u64) {
-        self.memory.all()[FRAME_WORDS * frame + index] = word;
+        self.memory.all()[word_at(frame, index)] = word;
     }
 
     /// Makes `page` a fixed page of the guest at its address, with its leaf in the frame `leaf`.
     pub fn fix(&mut self, page: usize, leaf: usize, asid: u64) {
-        self.put(page, fixed(asid, leaf));
-        self.put(leaf, [LEAF << KIND_SHIFT, 0]);
+        self.put(page, Entry::fixed(asid, address(leaf)));
+        self.put(leaf, Entry::LEAF);
         self.set(leaf, asid as usize, present(gpa(page)));
     }
 }
 
-/// The address of a frame.
-pub fn hpa(frame: usize) -> u64 {
-    frame as u64 * FRAME_BYTES
-}
-
 /// The guest's address at which these worlds have the page in a frame.
 pub fn gpa(frame: usize) -> u64 {
-    hpa(frame) + 0x5000_0000
+    address(frame) + 0x5000_0000
 }
 
 /// The guest that these worlds give a frame to, one of 16.
@@ -100,30 +93,11 @@ pub fn guest(frame: usize) -> u64 {
 }
 
 /// The entry of a PRIVATE page that is not open.
-pub fn private(frame: usize) -> [u64; ENTRY_WORDS] {
-    [guest(frame) | PRIVATE << KIND_SHIFT, gpa(frame)]
+pub fn private(frame: usize) -> Entry {
+    Entry::closed(guest(frame), PRIVATE, gpa(frame))
 }
 
 /// The entry of a MERGEABLE page that is not open.
-pub fn mergeable(frame: usize) -> [u64; ENTRY_WORDS] {
-    [guest(frame) | MERGEABLE << KIND_SHIFT, gpa(frame)]
-}
-
-/// The entry of a LEAF.
-pub const LEAF_ENTRY: [u64; ENTRY_WORDS] = [LEAF << KIND_SHIFT, 0];
-
-/// The entry of the same page, opened by its guest.
-pub fn open(entry: [u64; ENTRY_WORDS]) -> [u64; ENTRY_WORDS] {
-    [entry[0] | VALIDATED, entry[1]]
-}
-
-/// The word of a leaf for a guest that has its place at this address.
-pub fn present(address: u64) -> u64 {
-    address | 1
-}
-
-/// The entry of a fixed page.
-fn fixed(asid: u64, leaf: usize) -> [u64; ENTRY_WORDS] {
-    let flags = VALIDATED | FIXED;
-    [asid | MERGEABLE << KIND_SHIFT | flags, hpa(leaf)]
+pub fn mergeable(frame: usize) -> Entry {
+    Entry::closed(guest(frame), MERGEABLE, gpa(frame))
 }

@@ -1,11 +1,11 @@
 //! READ and WRITE, accepted.
 
-use skorbilek::{MERGEABLE, PRIVATE, SHARED};
+use common::layout::{address, present, MERGEABLE, PRIVATE, SHARED};
 
 use super::steady;
 use crate::calls::{Read, Write};
 use crate::scene::Scene;
-use crate::world::{gpa, guest, hpa, open, present, private, World};
+use crate::world::{gpa, guest, private, World};
 
 const FRAMES: usize = 4;
 /// The word of each frame that is read and written.
@@ -15,7 +15,7 @@ const INDEX: usize = 3;
 pub fn open_pages(n: usize, frames: usize) -> World {
     let mut world = World::new(n);
     for frame in 0..frames {
-        world.put(frame, open(private(frame)));
+        world.put(frame, private(frame).open());
         world.set(frame, INDEX, frame as u64 + 42);
     }
     world
@@ -26,7 +26,7 @@ pub fn reading(frame: usize, index: usize) -> Read {
     Read {
         caller: guest(frame),
         gpa: gpa(frame),
-        hpa: hpa(frame),
+        hpa: address(frame),
         gtype: PRIVATE,
         ntype: PRIVATE,
         index: index as u64,
@@ -82,7 +82,7 @@ pub fn read_merged(n: usize) -> Scene<Read, 0, 0> {
     let call = |slot| Read {
         caller: guest(2 * slot + 1),
         gpa: gpa(2 * slot + 1),
-        hpa: hpa(2 * slot),
+        hpa: address(2 * slot),
         gtype: MERGEABLE,
         ntype: MERGEABLE,
         index: INDEX as u64,

@@ -1,11 +1,12 @@
 //! RMPUPDATE and PVALIDATE, accepted.
 
-use skorbilek::{ENTRY_WORDS, HOST, PRIVATE};
+use common::layout::{address, PRIVATE};
+use skorbilek::HOST;
 
 use super::{repeated, steady};
 use crate::calls::{Pvalidate, Rmpupdate};
 use crate::scene::{Scene, Turn};
-use crate::world::{gpa, guest, hpa, private, World};
+use crate::world::{gpa, guest, private, World};
 
 const FRAMES: usize = 4;
 
@@ -40,7 +41,7 @@ pub fn changes(n: usize) -> Scene<Rmpupdate, 0, 0> {
 pub fn given(frame: usize, asid: u64) -> Rmpupdate {
     Rmpupdate {
         caller: HOST,
-        hpa: hpa(frame),
+        hpa: address(frame),
         gpa: gpa(frame),
         asid,
         kind: PRIVATE,
@@ -49,15 +50,18 @@ pub fn given(frame: usize, asid: u64) -> Rmpupdate {
 
 /// PVALIDATE that opens a page. One word is put back.
 pub fn opened(n: usize) -> Scene<Pvalidate, 1, 0> {
-    let turn = |frame| Turn {
-        call: Pvalidate {
-            caller: guest(frame),
-            gpa: gpa(frame),
-            hpa: hpa(frame),
-            kind: PRIVATE,
-        },
-        table: [(ENTRY_WORDS * frame, private(frame)[0])],
-        memory: [],
+    let turn = |frame| {
+        let [head, _] = private(frame).placed(frame);
+        Turn {
+            call: Pvalidate {
+                caller: guest(frame),
+                gpa: gpa(frame),
+                hpa: address(frame),
+                kind: PRIVATE,
+            },
+            table: [head],
+            memory: [],
+        }
     };
     Scene {
         world: pages(n, FRAMES),

@@ -1,11 +1,12 @@
 //! PMERGE, accepted and refused with 16, and PUNMERGE.
 
-use skorbilek::{ENTRY_WORDS, FRAME_WORDS, HOST};
+use common::layout::{address, present, word_at, Entry, ENTRY_WORDS, FRAME_WORDS};
+use skorbilek::HOST;
 
 use super::repeated;
 use crate::calls::{Pmerge, Punmerge};
 use crate::scene::{Scene, Turn};
-use crate::world::{gpa, guest, hpa, mergeable, open, present, World};
+use crate::world::{gpa, guest, mergeable, World};
 
 /// Three frames: a fixed page, its leaf, and the frame that is merged into it or gets a copy of it. N = 8 has room for two of these.
 const SLOTS: usize = 2;
@@ -20,31 +21,27 @@ pub fn equal_pages(n: usize, slots: usize) -> World {
     let mut world = World::new(n);
     for (one, leaf, two) in (0..slots).map(frames) {
         world.fix(one, leaf, guest(one));
-        world.put(two, open(mergeable(two)));
+        world.put(two, mergeable(two).open());
     }
     world
 }
 
 /// PMERGE of a slot. Frame 2's entry and its guest's word in the leaf are put back; the frame's zeros were zeros before.
-pub fn merge(slot: usize) -> Turn<Pmerge, 2, 1> {
+pub fn merge(slot: usize) -> Turn<Pmerge, ENTRY_WORDS, 1> {
     let (one, leaf, two) = frames(slot);
-    let entry = open(mergeable(two));
     Turn {
         call: Pmerge {
             caller: HOST,
-            hpa1: hpa(one),
-            hpa2: hpa(two),
+            hpa1: address(one),
+            hpa2: address(two),
         },
-        table: [
-            (ENTRY_WORDS * two, entry[0]),
-            (ENTRY_WORDS * two + 1, entry[1]),
-        ],
-        memory: [(FRAME_WORDS * leaf + guest(two) as usize, 0)],
+        table: mergeable(two).open().placed(two),
+        memory: [(word_at(leaf, guest(two) as usize), 0)],
     }
 }
 
 /// PMERGE of equal frames.
-pub fn merged(n: usize) -> Scene<Pmerge, 2, 1> {
+pub fn merged(n: usize) -> Scene<Pmerge, ENTRY_WORDS, 1> {
     Scene {
         world: equal_pages(n, SLOTS),
         turns: repeated((0..SLOTS).map(merge).collect()),
@@ -74,7 +71,7 @@ fn differ(n: usize, index: usize) -> Scene<Pmerge, 0, 0> {
 }
 
 /// PUNMERGE of a guest that has a place in a fixed page. Frame 2's entry and the guest's word in the leaf are put back.
-pub fn unmerged(n: usize) -> Scene<Punmerge, 2, 1> {
+pub fn unmerged(n: usize) -> Scene<Punmerge, ENTRY_WORDS, 1> {
     let mut world = World::new(n);
     let turns = (0..SLOTS).map(|slot| {
         let (one, leaf, two) = frames(slot);
@@ -84,12 +81,12 @@ pub fn unmerged(n: usize) -> Scene<Punmerge, 2, 1> {
         Turn {
             call: Punmerge {
                 caller: HOST,
-                hpa1: hpa(one),
-                hpa2: hpa(two),
+                hpa1: address(one),
+                hpa2: address(two),
                 asid,
             },
-            table: [(ENTRY_WORDS * two, 0), (ENTRY_WORDS * two + 1, 0)],
-            memory: [(FRAME_WORDS * leaf + asid as usize, place)],
+            table: Entry::SHARED.placed(two),
+            memory: [(word_at(leaf, asid as usize), place)],
         }
     });
     let turns = repeated(turns.collect());

@@ -1,11 +1,12 @@
 //! The nine calls, refused by the third of their checks: 3, the wrong caller; and 2 for CENSUS, which anyone may call.
 
-use skorbilek::{HOST, LEAF};
+use common::layout::{address, LEAF};
+use skorbilek::HOST;
 
 use super::{access, assignment, steady};
 use crate::calls::{Census, Pfix, Pmerge, Punfix, Punmerge, Pvalidate, Read, Rmpupdate, Write};
 use crate::scene::Scene;
-use crate::world::{gpa, guest, hpa, World};
+use crate::world::{gpa, guest, World};
 
 const FRAMES: usize = 4;
 /// A guest, where the caller has to be the host.
@@ -30,7 +31,7 @@ pub fn pvalidate(n: usize) -> Scene<Pvalidate, 0, 0> {
     refused(n, |frame| Pvalidate {
         caller: HOST,
         gpa: gpa(frame),
-        hpa: hpa(frame),
+        hpa: address(frame),
         kind: LEAF - 1,
     })
 }
@@ -38,24 +39,24 @@ pub fn pvalidate(n: usize) -> Scene<Pvalidate, 0, 0> {
 pub fn pfix(n: usize) -> Scene<Pfix, 0, 0> {
     refused(n, |frame| Pfix {
         caller: GUEST,
-        hpa: hpa(frame),
-        leaf: hpa(frame + 1),
+        hpa: address(frame),
+        leaf: address(frame + 1),
     })
 }
 
 pub fn pmerge(n: usize) -> Scene<Pmerge, 0, 0> {
     refused(n, |frame| Pmerge {
         caller: GUEST,
-        hpa1: hpa(frame),
-        hpa2: hpa(frame + 1),
+        hpa1: address(frame),
+        hpa2: address(frame + 1),
     })
 }
 
 pub fn punmerge(n: usize) -> Scene<Punmerge, 0, 0> {
     refused(n, |frame| Punmerge {
         caller: GUEST,
-        hpa1: hpa(frame),
-        hpa2: hpa(frame + 1),
+        hpa1: address(frame),
+        hpa2: address(frame + 1),
         asid: guest(frame),
     })
 }
@@ -63,7 +64,7 @@ pub fn punmerge(n: usize) -> Scene<Punmerge, 0, 0> {
 pub fn punfix(n: usize) -> Scene<Punfix, 0, 0> {
     refused(n, |frame| Punfix {
         caller: GUEST,
-        hpa: hpa(frame),
+        hpa: address(frame),
     })
 }
 

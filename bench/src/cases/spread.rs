@@ -1,6 +1,6 @@
 //! Calls spread over all frames of the table in random order, so that most of what they touch is in no near cache.
 
-use skorbilek::FRAME_WORDS;
+use common::layout::{ENTRY_WORDS, FRAME_WORDS};
 
 use super::{access, assignment, merging};
 use crate::calls::{Pmerge, Read, Rmpupdate, Write};
@@ -62,7 +62,7 @@ pub fn changes(n: usize) -> Scene<Rmpupdate, 0, 0> {
 }
 
 /// PMERGE over all frames, three a call.
-pub fn merged(n: usize) -> Scene<Pmerge, 2, 1> {
+pub fn merged(n: usize) -> Scene<Pmerge, ENTRY_WORDS, 1> {
     Scene {
         world: merging::equal_pages(n, n / 3),
         turns: shuffled(n / 3).into_iter().map(merging::merge).collect(),

@@ -1,9 +1,9 @@
 //! Full tables, for the calls that look through all of it.
 
-use skorbilek::{ENTRY_WORDS, FRAME_WORDS};
+use common::layout::{present, Entry, FRAME_WORDS};
 
 use crate::random::Random;
-use crate::world::{gpa, guest, mergeable, open, present, private, World, LEAF_ENTRY};
+use crate::world::{gpa, guest, mergeable, private, World};
 
 /// The first frames, which are open MERGEABLE pages in both tables. The last frame is a LEAF that no page has.
 pub const PAGES: usize = 4;
@@ -12,9 +12,9 @@ pub const PAGES: usize = 4;
 pub fn uniform(n: usize) -> World {
     let mut world = World::new(n);
     for frame in 0..n - 1 {
-        world.put(frame, open(mergeable(frame)));
+        world.put(frame, mergeable(frame).open());
     }
-    world.put(n - 1, LEAF_ENTRY);
+    world.put(n - 1, Entry::LEAF);
     world
 }
 
@@ -33,27 +33,27 @@ pub fn mixed(n: usize) -> World {
                 pages.push(frame);
             }
             _ => {
-                world.put(frame, LEAF_ENTRY);
+                world.put(frame, Entry::LEAF);
                 leaves.push(frame);
             }
         }
     }
     random.shuffle(&mut leaves);
-    pages.retain(|&page| world.entry(page) == open(mergeable(page)) && random.coin());
+    pages.retain(|&page| world.entry(page) == mergeable(page).open() && random.coin());
     for (&page, &leaf) in pages.iter().zip(&leaves) {
         world.fix(page, leaf, guest(page));
         join(&mut world, &mut random, page, leaf);
     }
     for frame in 0..PAGES {
-        world.put(frame, open(mergeable(frame)));
+        world.put(frame, mergeable(frame).open());
     }
-    world.put(n - 1, LEAF_ENTRY);
+    world.put(n - 1, Entry::LEAF);
     world
 }
 
-fn opened_or_not(random: &mut Random, entry: [u64; ENTRY_WORDS]) -> [u64; ENTRY_WORDS] {
+fn opened_or_not(random: &mut Random, entry: Entry) -> Entry {
     if random.coin() {
-        open(entry)
+        entry.open()
     } else {
         entry
     }

@@ -4,13 +4,13 @@
 use mathlib.Core.Path.{_≡_, refl, sym, _∙_}
 use mathlib.Core.List.{List, append-assoc}
 use mathlib.Core.Logic.{_≢_, ⊎-elim}
-use Prim.Native.Nat.{ℕ, zero, suc, min, _+_, _-_, _*_, _%_, _≤_, _<_}
+use Prim.Native.Nat.{ℕ, zero, suc, min, _+_, _-_, _*_, _≤_, _<_}
 use native.Mathlib.Omega.{arith}
 use lib.ListN.{length, getD, set, take, drop, length-set, length-drop, length-take, length-replicate, getD-replicate, List·getD-eq-default}
 use lib.Seq.{paste, getD-set-same, getD-set-other, getD-take, getD-drop, length-paste, take-all}
 use borrow.Author.Tests.{lt-ltb, le-ltb, eq-eqb, ne-eqb}
 use borrow.Rule.Slice.PartMut.{putMid, post-is}
-use Rattle.words.specs.Choice.{pick, _and_}
+use Rattle.words.specs.Choice.{_and_}
 use Rattle.words.specs.Run.{differing, odd}
 use Rattle.words.proofs.ChoiceLaws.{lt-or-le, same-or-not, pick-true, pick-false, and-not}
 use Rattle.words.proofs.ChoiceLaws.{bounds-kept, first-not, second-not, bounds-either}

@@ -1,9 +1,10 @@
 //! A call as a letter and numbers, and numbers for it: taken from the state at hand, at the boundaries, or near what they were.
 
+use common::layout::{address, ADDRESSES, ADDRESS_END, FRAME_BYTES};
 use second::Call;
 
 use crate::random::Random;
-use crate::state::{address, State, FRAME_BYTES};
+use crate::state::State;
 
 /// What a number of a call is.
 #[derive(Clone, Copy, PartialEq, Eq, Debug)]
@@ -19,9 +20,6 @@ pub enum Kind {
 /// The letters of the nine calls, as scripts have them.
 pub const LETTERS: [char; 9] = ['U', 'V', 'F', 'M', 'D', 'X', 'R', 'W', 'C'];
 
-/// The first number that is no address because it is too large.
-const END: u64 = 1 << 52;
-
 /// Numbers on both sides of every boundary.
 const BOUNDARIES: [u64; 20] = [
     0,
@@ -36,11 +34,11 @@ const BOUNDARIES: [u64; 20] = [
     1 << 16,
     1 << 32,
     1 << 44,
-    END - FRAME_BYTES,
-    END - 1,
-    END,
-    END + 1,
-    END + FRAME_BYTES,
+    ADDRESS_END - FRAME_BYTES,
+    ADDRESS_END - 1,
+    ADDRESS_END,
+    ADDRESS_END + 1,
+    ADDRESS_END + FRAME_BYTES,
     1 << 63,
     u64::MAX - 4095,
     u64::MAX,
@@ -148,7 +146,7 @@ pub fn fitting(random: &mut Random, state: &State, kind: Kind) -> u64 {
 fn party(random: &mut Random, state: &State) -> u64 {
     match random.below(10) {
         0..=3 => random.pick(&[1, 2, 7, 511]),
-        4..=6 if state.n() > 0 => state.page(random.index(state.n())).asid,
+        4..=6 if state.n() > 0 => state.entry(random.index(state.n())).asid,
         7 => 0,
         8 => random.below(512),
         _ => random.pick(&[0, 1, 511, 512, 0x1_0001]),
@@ -170,12 +168,12 @@ fn frame(random: &mut Random, state: &State) -> u64 {
 /// An address of a guest's: fresh, small, at the ends, or one that a page of the table has.
 pub fn guest_address(random: &mut Random, state: &State) -> u64 {
     match random.below(12) {
-        0..=4 => random.below(1 << 40) * FRAME_BYTES,
+        0..=4 => random.below(ADDRESSES) * FRAME_BYTES,
         5 | 6 => random.below(16) * FRAME_BYTES,
         7 => 0,
-        8 => END - FRAME_BYTES,
+        8 => ADDRESS_END - FRAME_BYTES,
         9 => 0x50000,
-        _ if state.n() > 0 => state.page(random.index(state.n())).address,
+        _ if state.n() > 0 => state.entry(random.index(state.n())).address,
         _ => FRAME_BYTES,
     }
 }
@@ -192,7 +190,7 @@ pub fn index(random: &mut Random) -> u64 {
 pub fn value(random: &mut Random) -> u64 {
     match random.below(10) {
         0..=5 => random.pick(&[0, 1, 0x2a, u64::MAX]),
-        6 | 7 => random.below(1 << 40) * FRAME_BYTES + random.below(4),
+        6 | 7 => random.below(ADDRESSES) * FRAME_BYTES + random.below(4),
         _ => random.word(),
     }
 }

@@ -3,10 +3,11 @@
 use std::collections::BTreeMap;
 use std::fmt;
 
+use common::layout::{frame_of, gpa_of};
 use second::{Answer, Call};
 
 use crate::monitor::Outcome;
-use crate::state::{State, FRAME_BYTES};
+use crate::state::State;
 
 /// What is counted. None may stay at zero.
 #[derive(Clone, Copy)]
@@ -62,8 +63,8 @@ pub struct Moved {
 /// Whose page the call moves, if it is accepted in this state.
 pub fn moved(call: &Call, before: &State) -> Option<Moved> {
     let page = |hpa: u64| {
-        let frame = usize::try_from(hpa / FRAME_BYTES).ok()?;
-        (frame < before.n()).then(|| before.page(frame))
+        let frame = frame_of(hpa);
+        (frame < before.n()).then(|| before.entry(frame))
     };
     match *call {
         Call::Pmerge { hpa2, .. } => {
@@ -75,9 +76,9 @@ pub fn moved(call: &Call, before: &State) -> Option<Moved> {
         }
         Call::Punmerge { hpa1, asid, .. } => {
             let fixed = page(hpa1)?;
-            let word = before.leaf(fixed)?.get(usize::try_from(asid).ok()?)?;
+            let &word = before.leaf(fixed)?.get(usize::try_from(asid).ok()?)?;
             Some(Moved {
-                holding: (asid, word & !1),
+                holding: (asid, gpa_of(word)),
                 owner: asid == fixed.asid,
             })
         }

@@ -1,9 +1,12 @@
 //! What can be wrong with a table and its leaves: things that no history of calls brings about.
 
-use crate::random::Random;
-use crate::state::{
-    address, head, State, FIXED, FRAME_BYTES, LEAF, MERGEABLE, PRIVATE, SHARED, VALIDATED,
+use common::layout::{
+    address, frame_of, present, Entry, ADDRESSES, ADDRESS_END, ENTRY_WORDS, FRAME_BYTES, LEAF,
+    MERGEABLE, PRIVATE, SHARED, UNUSED_BITS,
 };
+
+use crate::random::Random;
+use crate::state::State;
 
 /// Damages one word, entry or leaf. The state has the right sizes, or nearly.
 pub fn one(random: &mut Random, state: &mut State) {
@@ -11,21 +14,22 @@ pub fn one(random: &mut Random, state: &mut State) {
     let roles = state.roles();
     let fixed = random.try_pick(&roles.fixed);
     match (random.below(12), fixed) {
-        (0, _) => state.table[2 * frame] ^= 1 << random.below(64),
-        (1, _) => state.table[2 * frame + 1] ^= 1 << random.below(64),
-        (2, _) => state.table[2 * frame] ^= 1 << random.below(22),
+        (0, _) => state.entry_mut(frame)[0] ^= 1 << random.below(64),
+        (1, _) => state.entry_mut(frame)[1] ^= 1 << random.below(64),
+        // a bit of a field, or one of the two unused bits above them
+        (2, _) => state.entry_mut(frame)[0] ^= 1 << random.below(64 - UNUSED_BITS + 2),
         (3, _) => misfit(random, state, frame),
         (4 | 5, Some(page)) => spoil_leaf_entry(random, state, page),
         (6..=8, Some(page)) => spoil_leaf_word(random, state, page),
         (9, Some(page)) => {
             // two fixed pages with one leaf
-            let leaf = state.page(page).address;
-            state.set_entry(frame, head(7, MERGEABLE) | VALIDATED | FIXED, leaf);
+            let leaf = state.entry(page).address;
+            state.put(frame, Entry::fixed(7, leaf));
         }
         _ => {
             let leaf = wrong_leaf(random, state, frame);
             let guest = random.pick(&[1, 7, 511]);
-            state.set_entry(frame, head(guest, MERGEABLE) | VALIDATED | FIXED, leaf);
+            state.put(frame, Entry::fixed(guest, leaf));
         }
     }
 }
@@ -34,8 +38,8 @@ pub fn one(random: &mut Random, state: &mut State) {
 pub fn half(random: &mut Random, state: &mut State) {
     for frame in 0..state.n() {
         if random.chance(50) {
-            let (head, address) = (wild_head(random), wild_address(random, state));
-            state.set_entry(frame, head, address);
+            let words = wild(random, state);
+            state.entry_mut(frame).copy_from_slice(&words);
         }
     }
 }
@@ -44,11 +48,11 @@ pub fn half(random: &mut Random, state: &mut State) {
 pub fn all(random: &mut Random, state: &mut State) {
     let fields = random.chance(60);
     for frame in 0..state.n() {
-        let (mut head, mut address) = (wild_head(random), wild_address(random, state));
+        let mut words = wild(random, state);
         if !fields {
-            (head, address) = (random.word(), random.word());
+            words = words.map(|_| random.word());
         }
-        state.set_entry(frame, head, address);
+        state.entry_mut(frame).copy_from_slice(&words);
     }
     state
         .memory
@@ -60,86 +64,97 @@ pub fn all(random: &mut Random, state: &mut State) {
 fn wrong_leaf(random: &mut Random, state: &State, frame: usize) -> u64 {
     let (n, m) = (state.n(), state.m());
     let any = random.index(n);
-    address(random.pick(&[frame, 2, any, any, n, n + 1, m - 1, m, (1 << 40) - 1]))
+    let last = frame_of(ADDRESS_END - 1);
+    address(random.pick(&[frame, 2, any, any, n, n + 1, m - 1, m, last]))
 }
 
 /// An entry that just fails to be well formed.
 fn misfit(random: &mut Random, state: &mut State, frame: usize) {
-    let n = address(state.n());
+    let page = Entry::closed(7, MERGEABLE, FRAME_BYTES).open();
+    let fixed = Entry::fixed(7, 0);
+    #[rustfmt::skip]
     let misfits = [
-        (head(7, MERGEABLE) | VALIDATED | FIXED, n),
-        (head(7, MERGEABLE) | FIXED, 0),
-        (head(7, PRIVATE) | VALIDATED | FIXED, 0),
-        (head(0, MERGEABLE) | VALIDATED, FRAME_BYTES),
-        (head(0, PRIVATE), FRAME_BYTES),
-        (head(512, PRIVATE) | VALIDATED, FRAME_BYTES),
-        (head(7, MERGEABLE) | VALIDATED, FRAME_BYTES + 1),
-        (head(7, MERGEABLE) | VALIDATED, 1 << 52),
-        (head(0, LEAF), FRAME_BYTES),
-        (head(0, LEAF) | VALIDATED, 0),
-        (head(1, LEAF), 0),
-        (head(0, SHARED), FRAME_BYTES),
-        (head(0, SHARED) | VALIDATED, 0),
-        (head(0, SHARED) | FIXED, 0),
-        (head(1, SHARED), 0),
-        (1 << 20, 0),
-        (head(7, MERGEABLE) | VALIDATED | 1 << 63, FRAME_BYTES),
+        Entry::fixed(7, address(state.n())),
+        Entry { validated: false, ..fixed },
+        Entry { kind: PRIVATE, ..fixed },
+        Entry { asid: 0, ..page },
+        Entry::closed(0, PRIVATE, FRAME_BYTES),
+        Entry { asid: 512, kind: PRIVATE, ..page },
+        Entry { address: FRAME_BYTES + 1, ..page },
+        Entry { address: ADDRESS_END, ..page },
+        Entry { address: FRAME_BYTES, ..Entry::LEAF },
+        Entry { validated: true, ..Entry::LEAF },
+        Entry { asid: 1, ..Entry::LEAF },
+        Entry { address: FRAME_BYTES, ..Entry::SHARED },
+        Entry { validated: true, ..Entry::SHARED },
+        Entry { fixed: true, ..Entry::SHARED },
+        Entry { asid: 1, ..Entry::SHARED },
+        Entry { unused: 1, ..Entry::SHARED },
+        Entry { unused: 1 << (UNUSED_BITS - 1), ..page },
     ];
-    let (head, address) = random.pick(&misfits);
-    state.set_entry(frame, head, address);
+    state.put(frame, random.pick(&misfits));
 }
 
 /// The leaf of a fixed page gets another type, or an entry that is not well formed.
 fn spoil_leaf_entry(random: &mut Random, state: &mut State, page: usize) {
-    let leaf = (state.page(page).address / FRAME_BYTES) as usize;
+    let leaf = frame_of(state.entry(page).address);
     if leaf >= state.n() {
         return;
     }
     let kind = random.pick(&[SHARED, PRIVATE, MERGEABLE, LEAF]);
     match kind {
-        SHARED => state.set_entry(leaf, 0, 0),
+        SHARED => state.put(leaf, Entry::SHARED),
         LEAF => misfit(random, state, leaf),
-        _ => state.set_entry(leaf, head(7, kind) | VALIDATED, FRAME_BYTES),
+        _ => state.put(leaf, Entry::closed(7, kind, FRAME_BYTES).open()),
     }
 }
 
 /// A word of a fixed page's leaf becomes misshapen, or word 0 becomes present, or one bit changes.
 fn spoil_leaf_word(random: &mut Random, state: &mut State, page: usize) {
-    let page = state.page(page);
-    let leaf = (page.address / FRAME_BYTES) as usize;
+    let page = state.entry(page);
+    let leaf = frame_of(page.address);
     let asid = match random.below(4) {
         0 => 0,
         1 => random.pick(&[1, 2, 7, 511]),
         _ => page.asid as usize,
     };
-    let misshapen = [3, 0x801, 0x50003, 1 | 1 << 52, 1 | 1 << 63, u64::MAX];
+    let addresses = [2, 0x800, 0x50002, ADDRESS_END, 1 << 63, u64::MAX];
     let Some(word) = state.frame_mut(leaf).and_then(|words| words.get_mut(asid)) else {
         return;
     };
     match random.below(4) {
         0 => *word ^= 1 << random.below(64),
-        1 => *word = 0x50001,
-        _ => *word = random.pick(&misshapen),
+        1 => *word = present(0x50000),
+        _ => *word = present(random.pick(&addresses)),
     }
 }
 
-/// Word 0 with random fields, most of them of a guest that can be.
-fn wild_head(random: &mut Random) -> u64 {
+/// The words of an entry with random fields, most of them of a guest that can be; now and then with one bit of word 0 more.
+fn wild(random: &mut Random, state: &State) -> [u64; ENTRY_WORDS] {
     let asid = random.pick(&[0, 1, 2, 7, 511, 512]);
-    let flags = random.pick(&[0, VALIDATED, VALIDATED | FIXED, FIXED]);
-    let beyond = if random.chance(5) {
+    let flags = [(false, false), (true, false), (true, true), (false, true)];
+    let (validated, fixed) = random.pick(&flags);
+    let more = if random.chance(5) {
         1 << random.below(64)
     } else {
         0
     };
-    head(asid, random.below(4)) | flags | beyond
+    let kind = random.below(4);
+    let entry = Entry {
+        validated,
+        fixed,
+        ..Entry::closed(asid, kind, wild_address(random, state))
+    };
+    let mut words = entry.words();
+    words[0] |= more;
+    words
 }
 
 fn wild_address(random: &mut Random, state: &State) -> u64 {
     match random.below(8) {
         0 | 1 => 0,
         2..=5 => address(random.index(state.n() + 1)),
-        6 => random.below(1 << 40) * FRAME_BYTES,
+        6 => random.below(ADDRESSES) * FRAME_BYTES,
         _ => random.word() >> random.below(64),
     }
 }

@@ -1,11 +1,14 @@
 //! Calls that mean something in the state at hand: each looks for frames that fit what it is about, so that pages are given, opened,
 //! written, fixed, merged, unmerged, unfixed and closed, over and over. Most of them are accepted.
 
+use common::layout::{
+    address, gpa_of, is_present, Entry, FRAME_BYTES, LEAF, MERGEABLE, PRIVATE, SHARED,
+};
 use second::Call;
 
 use crate::arguments::{self, guest_address, index, value};
 use crate::random::Random;
-use crate::state::{address, Page, Roles, State, FRAME_BYTES, LEAF, MERGEABLE, PRIVATE, SHARED};
+use crate::state::{Roles, State};
 
 /// The guests that most calls are about: few, so that they meet, and both ends.
 const GUESTS: [u64; 4] = [1, 2, 7, 511];
@@ -82,7 +85,7 @@ impl Guide<'_> {
             0 => 1 + self.random.below(511),
             1 | 2 if self.state.n() > 0 => {
                 let frame = self.random.index(self.state.n());
-                self.state.page(frame).asid.max(1)
+                self.state.entry(frame).asid.max(1)
             }
             _ => self.random.pick(&GUESTS),
         }
@@ -130,7 +133,7 @@ impl Guide<'_> {
 
     fn open(&mut self) -> Option<Call> {
         let frame = self.random.try_pick(&self.roles.closed)?;
-        let page = self.state.page(frame);
+        let page = self.state.entry(frame);
         Some(Call::Pvalidate {
             caller: page.asid,
             gpa: page.address,
@@ -140,7 +143,7 @@ impl Guide<'_> {
     }
 
     fn write_of(&mut self, frame: usize, index: u64, value: u64) -> Call {
-        let page = self.state.page(frame);
+        let page = self.state.entry(frame);
         Call::Write {
             caller: page.asid,
             gpa: page.address,
@@ -197,7 +200,7 @@ impl Guide<'_> {
             let fixed = &self.roles.fixed;
             if !fixed
                 .iter()
-                .any(|&page| self.state.page(page).address == address(leaf))
+                .any(|&page| self.state.entry(page).address == address(leaf))
             {
                 break;
             }
@@ -221,11 +224,11 @@ impl Guide<'_> {
                 hpa1: address(one),
                 hpa2: address(two),
             });
-            let guest = self.state.page(two).asid as usize;
-            let leaf = self.state.leaf(self.state.page(one));
+            let guest = self.state.entry(two).asid as usize;
+            let leaf = self.state.leaf(self.state.entry(one));
             let absent = leaf
                 .and_then(|words| words.get(guest))
-                .is_some_and(|word| word & 1 == 0);
+                .is_some_and(|&word| !is_present(word));
             if absent && self.state.frame(one) == self.state.frame(two) {
                 break;
             }
@@ -233,12 +236,12 @@ impl Guide<'_> {
         call
     }
 
-    /// The guests whose words in the page's leaf have bit 0 set.
-    fn guests_in(&self, page: Page) -> Vec<u64> {
+    /// The guests whose words in the page's leaf are present, misshapen or not.
+    fn guests_in(&self, page: Entry) -> Vec<u64> {
         let words = self.state.leaf(page).unwrap_or_default();
         (0..)
             .zip(words)
-            .filter(|(_, &word)| word & 1 == 1)
+            .filter(|(_, &word)| is_present(word))
             .map(|(asid, _)| asid)
             .collect()
     }
@@ -246,7 +249,7 @@ impl Guide<'_> {
     fn unmerge(&mut self) -> Option<Call> {
         let one = self.random.try_pick(&self.roles.fixed)?;
         let two = self.random.try_pick(&self.roles.shared)?;
-        let guests = self.guests_in(self.state.page(one));
+        let guests = self.guests_in(self.state.entry(one));
         let asid = match self.random.try_pick(&guests) {
             Some(guest) if self.random.chance(90) => guest,
             _ => self.guest(),
@@ -262,7 +265,7 @@ impl Guide<'_> {
     fn unfix(&mut self) -> Option<Call> {
         let mut frame = self.random.try_pick(&self.roles.fixed)?;
         for _ in 0..3 {
-            if self.guests_in(self.state.page(frame)).len() == 1 {
+            if self.guests_in(self.state.entry(frame)).len() == 1 {
                 break;
             }
             frame = self.random.pick(&self.roles.fixed);
@@ -282,12 +285,12 @@ impl Guide<'_> {
             &self.roles.closed
         };
         let frame = self.random.try_pick(frames)?;
-        let Page {
+        let Entry {
             asid,
             kind,
             address: gpa,
             ..
-        } = self.state.page(frame);
+        } = self.state.entry(frame);
         let (another, elsewhere) = (self.guest(), guest_address(self.random, self.state));
         let (asid, gpa, kind) = match self.random.below(8) {
             0 => (asid, gpa, kind),
@@ -308,11 +311,11 @@ impl Guide<'_> {
             true => self.random.try_pick(&self.roles.fixed)?,
             false => self.open_page(false)?,
         };
-        let page = self.state.page(frame);
+        let page = self.state.entry(frame);
         let (mut asid, mut gpa) = (page.asid, page.address);
         if fixed {
             asid = self.random.try_pick(&self.guests_in(page))?;
-            gpa = self.state.leaf(page)?[asid as usize] & !1;
+            gpa = gpa_of(self.state.leaf(page)?[asid as usize]);
         }
         #[rustfmt::skip]
         let place = Place { asid, gpa, frame, kind: page.kind };

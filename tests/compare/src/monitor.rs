@@ -4,6 +4,7 @@ use std::cell::Cell;
 use std::panic::{self, AssertUnwindSafe};
 use std::sync::Once;
 
+use common::answer::translated;
 use second::{Answer, Call};
 
 use crate::state::State;
@@ -64,21 +65,6 @@ impl Monitor for Second {
 
     fn make(&self, call: &Call, table: &mut [u64], memory: &mut [u64]) -> Answer {
         call.make(table, memory)
-    }
-}
-
-/// An answer of the bindings as the second program names it.
-fn translated(answer: Result<skorbilek::Answer, skorbilek::Refusal>) -> Answer {
-    use skorbilek::Answer as Given;
-    match answer {
-        Err(refusal) => Answer::Refused(refusal.number() as u8),
-        Ok(Given::Done) => Answer::Done,
-        Ok(Given::None) => Answer::None,
-        Ok(Given::Closed { asid, gpa }) => Answer::Closed { asid, gpa },
-        Ok(Given::Opened) => Answer::Opened,
-        Ok(Given::Already) => Answer::Already,
-        Ok(Given::Word(word)) => Answer::Word(word),
-        Ok(Given::Count(count)) => Answer::Count(count),
     }
 }
 

@@ -2,12 +2,12 @@
 
 use std::fmt;
 
+use common::layout::FRAME_WORDS;
 use second::Answer;
 
 use crate::monitor::{Monitor, Outcome};
 use crate::pair::Finding;
 use crate::shrink::{smallest, Case, Check};
-use crate::state::FRAME_WORDS;
 
 /// At most so many words of a table or memory are printed.
 const PRINTED: usize = 40;
@@ -106,7 +106,7 @@ fn place(in_table: bool, position: usize) -> String {
     let (frame, index) = (position / FRAME_WORDS, position % FRAME_WORDS);
     match in_table {
         true => format!("t[{position}]"),
-        false => format!("m[512*{frame} + {index}]"),
+        false => format!("m[{FRAME_WORDS}*{frame} + {index}]"),
     }
 }
 

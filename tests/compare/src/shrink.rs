@@ -1,10 +1,13 @@
 //! Makes a case that shows a fault as small as can be found: whatever can go while the fault stays, goes.
 
+use std::ops::Range;
+
+use common::layout::{address, entry_at, frame_at, frame_of, Entry, ENTRY_WORDS, FRAME_WORDS};
 use second::Call;
 
 use crate::arguments::{self, Kind};
 use crate::pair::Finding;
-use crate::state::{address, State, FIXED, FRAME_BYTES, FRAME_WORDS};
+use crate::state::State;
 
 /// Calls that are made in order, from this state on.
 #[derive(Clone)]
@@ -96,7 +99,7 @@ fn shorten(case: &mut Case, check: &Check) -> bool {
     let mut smaller = false;
     for (part, unit) in [
         (memory as fn(&mut State) -> &mut Vec<u64>, FRAME_WORDS),
-        (table, 2),
+        (table, ENTRY_WORDS),
     ] {
         let halved = |length: usize| length / unit / 2 * unit + length % unit;
         let lessened = |length: usize| length.saturating_sub(unit);
@@ -213,35 +216,23 @@ fn drop_frames(case: &mut Case, check: &Check) -> bool {
 
 /// The case with these frames alone, of those that have an entry.
 fn restricted(case: &Case, kept: &[usize]) -> Case {
-    let State { table, memory } = &case.start;
     let (n, m) = (case.start.n(), case.start.m());
-    let renamed = |hpa: u64| match usize::try_from(hpa / FRAME_BYTES) {
-        Ok(frame) if (n..=m + 1).contains(&frame) => hpa - address(n - kept.len()),
-        Ok(frame) => kept
+    let renamed = |hpa: u64| match frame_of(hpa) {
+        frame if (n..=m + 1).contains(&frame) => hpa - address(n - kept.len()),
+        frame => kept
             .binary_search(&frame)
             .map_or(hpa, |place| hpa - address(frame - place)),
-        Err(_) => hpa,
     };
-    let part = |words: &[u64], from: usize, to: usize| {
-        words[from.min(words.len())..to.min(words.len())].to_vec()
+    let mut start = State {
+        table: kept_words(&case.start.table, entry_at, kept, n),
+        memory: kept_words(&case.start.memory, frame_at, kept, n),
     };
-    let mut start = State::zero(0, 0);
-    for &frame in kept {
-        start.table.extend(part(table, 2 * frame, 2 * frame + 2));
-        start
-            .memory
-            .extend(part(memory, FRAME_WORDS * frame, FRAME_WORDS * (frame + 1)));
-    }
-    start.table.extend(part(table, 2 * n, table.len()));
-    start
-        .memory
-        .extend(part(memory, FRAME_WORDS * n, memory.len()));
-    for entry in start
-        .table
-        .chunks_exact_mut(2)
-        .filter(|entry| entry[0] & FIXED != 0)
-    {
-        entry[1] = renamed(entry[1]);
+    for frame in 0..start.n() {
+        let entry = start.entry(frame);
+        if entry.fixed {
+            let address = renamed(entry.address);
+            start.put(frame, Entry { address, ..entry });
+        }
     }
     let calls = case
         .calls
@@ -249,6 +240,15 @@ fn restricted(case: &Case, kept: &[usize]) -> Case {
         .map(|call| with_frames(call, renamed))
         .collect();
     Case { start, calls }
+}
+
+/// The words of these frames, as many as there are, and all words from frame N on.
+fn kept_words(words: &[u64], at: fn(usize) -> Range<usize>, kept: &[usize], n: usize) -> Vec<u64> {
+    let end = words.len();
+    let part = |place: Range<usize>| &words[place.start.min(end)..place.end.min(end)];
+    let frames = kept.iter().map(|&frame| part(at(frame)));
+    let rest = part(at(n).start..end);
+    frames.chain([rest]).flatten().copied().collect()
 }
 
 /// The call with the addresses of frames changed.

@@ -1,32 +1,12 @@
-//! A table and a memory, and what their bits say. Nothing here asks whether an entry is well formed: the states that calls are compared
-//! on often are not, and arguments are taken from them all the same.
+//! A table and a memory. Nothing here asks whether an entry is well formed: the states that calls are compared on often have others, and
+//! arguments are taken from them all the same.
 
-pub const FRAME_WORDS: usize = 512;
-pub const FRAME_BYTES: u64 = 4096;
-
-pub const SHARED: u64 = 0;
-pub const PRIVATE: u64 = 1;
-pub const MERGEABLE: u64 = 2;
-pub const LEAF: u64 = 3;
-
-pub const VALIDATED: u64 = 1 << 18;
-pub const FIXED: u64 = 1 << 19;
+use common::layout::{self, Entry, LEAF, MERGEABLE, SHARED};
 
 #[derive(Clone, PartialEq, Eq)]
 pub struct State {
     pub table: Vec<u64>,
     pub memory: Vec<u64>,
-}
-
-/// An entry by its bits.
-#[derive(Clone, Copy)]
-pub struct Page {
-    pub asid: u64,
-    pub kind: u64,
-    pub validated: bool,
-    pub fixed: bool,
-    /// Word 1: the guest's address, or the leaf's.
-    pub address: u64,
 }
 
 /// Frames by what their entries say they are.
@@ -43,68 +23,53 @@ pub struct Roles {
     pub leaves: Vec<usize>,
 }
 
-/// The address of a frame.
-pub fn address(frame: usize) -> u64 {
-    frame as u64 * FRAME_BYTES
-}
-
-/// Word 0 of an entry without flags.
-pub fn head(asid: u64, kind: u64) -> u64 {
-    asid | kind << 16
-}
-
 impl State {
     pub fn zero(n: usize, m: usize) -> Self {
         Self {
-            table: vec![0; 2 * n],
-            memory: vec![0; FRAME_WORDS * m],
+            table: vec![0; layout::table_words(n)],
+            memory: vec![0; layout::memory_words(m)],
         }
     }
 
-    /// N, where the table has an even number of words.
     pub fn n(&self) -> usize {
-        self.table.len() / 2
+        layout::n(&self.table)
     }
 
-    /// M, where memory has a multiple of 512 words.
     pub fn m(&self) -> usize {
-        self.memory.len() / FRAME_WORDS
+        layout::m(&self.memory)
     }
 
-    pub fn page(&self, frame: usize) -> Page {
-        let head = self.table[2 * frame];
-        Page {
-            asid: head & 0xffff,
-            kind: head >> 16 & 3,
-            validated: head & VALIDATED != 0,
-            fixed: head & FIXED != 0,
-            address: self.table[2 * frame + 1],
-        }
+    pub fn entry(&self, frame: usize) -> Entry {
+        Entry::at(&self.table, frame)
     }
 
-    pub fn set_entry(&mut self, frame: usize, head: u64, address: u64) {
-        self.table[2 * frame] = head;
-        self.table[2 * frame + 1] = address;
+    pub fn put(&mut self, frame: usize, entry: Entry) {
+        entry.put(&mut self.table, frame);
+    }
+
+    /// The words of an entry.
+    pub fn entry_mut(&mut self, frame: usize) -> &mut [u64] {
+        &mut self.table[layout::entry_at(frame)]
     }
 
     /// The words of a frame, if memory has it whole.
     pub fn frame(&self, frame: usize) -> Option<&[u64]> {
-        self.memory.chunks_exact(FRAME_WORDS).nth(frame)
+        self.memory.get(layout::frame_at(frame))
     }
 
     pub fn frame_mut(&mut self, frame: usize) -> Option<&mut [u64]> {
-        self.memory.chunks_exact_mut(FRAME_WORDS).nth(frame)
+        self.memory.get_mut(layout::frame_at(frame))
     }
 
     /// The words of the frame that a fixed page names as its leaf.
-    pub fn leaf(&self, page: Page) -> Option<&[u64]> {
-        self.frame(usize::try_from(page.address / FRAME_BYTES).ok()?)
+    pub fn leaf(&self, page: Entry) -> Option<&[u64]> {
+        self.frame(layout::frame_of(page.address))
     }
 
     pub fn roles(&self) -> Roles {
         let mut roles = Roles::default();
         for frame in 0..self.n() {
-            let page = self.page(frame);
+            let page = self.entry(frame);
             let list = match page.kind {
                 SHARED => &mut roles.shared,
                 LEAF => &mut roles.leaves,

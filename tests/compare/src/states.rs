@@ -1,10 +1,13 @@
 //! States to compare calls on: well formed, damaged, half damaged and wholly random ones, of all sizes.
 
+use common::layout::{
+    address, gpa_of, memory_words, present, table_words, Entry, ADDRESSES, ADDRESS_END,
+    FRAME_BYTES, FRAME_WORDS, MERGEABLE, PRIVATE,
+};
+
 use crate::damage;
 use crate::random::Random;
-use crate::state::{
-    address, head, State, FIXED, FRAME_BYTES, FRAME_WORDS, LEAF, MERGEABLE, PRIVATE, VALIDATED,
-};
+use crate::state::State;
 
 /// Sizes at the upper bounds, N and M, on both sides. The last four are wrong.
 pub const LARGE: [(usize, usize); 8] = [
@@ -57,6 +60,7 @@ pub fn large(random: &mut Random, (n, m): (usize, usize)) -> State {
 /// Lengths that no monitor accepts.
 fn missize(random: &mut Random, state: &mut State) {
     let (t, w) = (state.table.len(), state.memory.len());
+    let (n, m) = (state.n(), state.m());
     match random.below(9) {
         0 => state.table.truncate(t - 1),
         1 => state.table.push(0),
@@ -64,9 +68,9 @@ fn missize(random: &mut Random, state: &mut State) {
         3 => state.memory.truncate(w - 1),
         4 => state.memory.push(random.word()),
         5 => state.memory.clear(),
-        6 => state.table.resize(w / FRAME_WORDS * 2 + 2, 0),
-        7 => state.memory.truncate((t / 2 - 1) * FRAME_WORDS),
-        _ => state.table.resize(2 * 4097, 0),
+        6 => state.table.resize(table_words(m + 1), 0),
+        7 => state.memory.truncate(memory_words(n - 1)),
+        _ => state.table.resize(table_words(4097), 0),
     }
     if random.chance(5) {
         (state.table, state.memory) = (Vec::new(), Vec::new());
@@ -80,16 +84,20 @@ fn populate(random: &mut Random, state: &mut State, frames: &[usize]) {
     for &frame in frames {
         contents.fill(random, state, frame);
         let (asid, gpa) = (guest(random), guest_address(random));
-        let validated = if random.chance(75) { VALIDATED } else { 0 };
+        let validated = random.chance(75);
+        let page = |kind| Entry {
+            validated,
+            ..Entry::closed(asid, kind, gpa)
+        };
         match random.below(100) {
             0..=24 => {}
-            25..=36 => state.set_entry(frame, head(asid, PRIVATE) | validated, gpa),
+            25..=36 => state.put(frame, page(PRIVATE)),
             37..=74 => {
-                state.set_entry(frame, head(asid, MERGEABLE) | validated, gpa);
+                state.put(frame, page(MERGEABLE));
                 mergeable.push(frame);
             }
             _ => {
-                state.set_entry(frame, head(0, LEAF), 0);
+                state.put(frame, Entry::LEAF);
                 leaves.push(frame);
             }
         }
@@ -108,22 +116,20 @@ fn populate(random: &mut Random, state: &mut State, frames: &[usize]) {
 
 /// Makes a page fixed: its leaf has the owner's word, mostly, and words of some other guests.
 fn fix(random: &mut Random, state: &mut State, frame: usize, leaf: usize) {
-    let asid = state.page(frame).asid;
-    state.set_entry(
-        frame,
-        head(asid, MERGEABLE) | VALIDATED | FIXED,
-        address(leaf),
-    );
+    let asid = state.entry(frame).asid;
+    state.put(frame, Entry::fixed(asid, address(leaf)));
     let untidy = random.chance(25);
     let mut words = [0; FRAME_WORDS];
     if untidy {
-        words.iter_mut().for_each(|word| *word = random.word() & !1); // absent, whatever the other bits
+        words
+            .iter_mut()
+            .for_each(|word| *word = gpa_of(random.word())); // absent, whatever the other bits
     }
     for _ in 0..random.pick(&[0, 0, 1, 2, 4]) {
-        words[guest(random) as usize] = guest_address(random) + 1;
+        words[guest(random) as usize] = present(guest_address(random));
     }
     words[asid as usize] = match random.chance(85) {
-        true => guest_address(random) + 1,
+        true => present(guest_address(random)),
         false => 0,
     };
     if let Some(frame) = state.frame_mut(leaf) {
@@ -141,9 +147,9 @@ fn guest(random: &mut Random) -> u64 {
 fn guest_address(random: &mut Random) -> u64 {
     match random.below(8) {
         0 => 0,
-        1 => (1 << 52) - FRAME_BYTES,
+        1 => ADDRESS_END - FRAME_BYTES,
         2..=4 => random.below(8) * FRAME_BYTES,
-        _ => random.below(1 << 40) * FRAME_BYTES,
+        _ => random.below(ADDRESSES) * FRAME_BYTES,
     }
 }
 

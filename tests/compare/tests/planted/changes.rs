@@ -1,10 +1,9 @@
 //! Faults in what a call changes or answers.
 
+use common::layout::{frame_of, present, Entry};
 use second::{Answer, Call};
 
-use crate::monitors::{frame, words, Planted};
-
-const VALIDATED: u64 = 1 << 18;
+use crate::monitors::{entries, entry, leaf_word, words, Planted};
 
 pub const FAULTS: [Planted; 16] = [
     Planted {
@@ -13,8 +12,7 @@ pub const FAULTS: [Planted; 16] = [
             let before = table.to_vec();
             let answer = call.make(table, memory);
             if let (Answer::Done, Call::Pmerge { hpa2, .. }) = (answer, *call) {
-                let entry = 2 * frame(hpa2)..2 * frame(hpa2) + 2;
-                table[entry.clone()].copy_from_slice(&before[entry]);
+                entry(&before, hpa2).put(table, frame_of(hpa2));
             }
             answer
         },
@@ -37,9 +35,8 @@ pub const FAULTS: [Planted; 16] = [
         make: |call, table, memory| {
             let answer = call.make(table, memory);
             if let (Answer::Refused(16), Call::Pmerge { hpa1, hpa2, .. }) = (answer, *call) {
-                let leaf = words(table[2 * frame(hpa1) + 1]).start;
-                let guest = (table[2 * frame(hpa2)] & 0xffff) as usize;
-                memory[leaf + guest] = table[2 * frame(hpa2) + 1] + 1;
+                let merged = entry(table, hpa2);
+                memory[leaf_word(table, hpa1, merged.asid)] = present(merged.address);
             }
             answer
         },
@@ -50,7 +47,7 @@ pub const FAULTS: [Planted; 16] = [
             let (old_table, old_memory) = (table.to_vec(), memory.to_vec());
             let answer = call.make(table, memory);
             if let (Answer::Done, Call::Punfix { hpa, .. }) = (answer, *call) {
-                let leaf = words(old_table[2 * frame(hpa) + 1]);
+                let leaf = words(entry(&old_table, hpa).address);
                 memory[leaf.clone()].copy_from_slice(&old_memory[leaf]);
             }
             answer
@@ -62,7 +59,7 @@ pub const FAULTS: [Planted; 16] = [
             let before = memory.to_vec();
             let answer = call.make(table, memory);
             if let (Answer::Done, Call::Pfix { hpa, leaf, .. }) = (answer, *call) {
-                let owner = (table[2 * frame(hpa)] & 0xffff) as usize;
+                let owner = entry(table, hpa).asid as usize;
                 let word = memory[words(leaf)][owner];
                 memory[words(leaf)].copy_from_slice(&before[words(leaf)]);
                 memory[words(leaf)][owner] = word;
@@ -75,7 +72,11 @@ pub const FAULTS: [Planted; 16] = [
         make: |call, table, memory| {
             let answer = call.make(table, memory);
             if let (Answer::Done, Call::Punmerge { hpa2, .. }) = (answer, *call) {
-                table[2 * frame(hpa2)] &= !VALIDATED;
+                let copy = Entry {
+                    validated: false,
+                    ..entry(table, hpa2)
+                };
+                copy.put(table, frame_of(hpa2));
             }
             answer
         },
@@ -97,7 +98,7 @@ pub const FAULTS: [Planted; 16] = [
             let before = memory.to_vec();
             let answer = call.make(table, memory);
             if let (Answer::Done, Call::Punmerge { hpa1, asid, .. }) = (answer, *call) {
-                let word = words(table[2 * frame(hpa1) + 1]).start + asid as usize;
+                let word = leaf_word(table, hpa1, asid);
                 memory[word] = before[word];
             }
             answer
@@ -109,10 +110,9 @@ pub const FAULTS: [Planted; 16] = [
             let before = table.to_vec();
             let answer = call.make(table, memory);
             if let (Answer::Closed { .. }, Call::Rmpupdate { hpa, .. }) = (answer, *call) {
-                let entry = 2 * frame(hpa);
-                let same = table[entry + 1] == before[entry + 1];
-                if same && table[entry] == before[entry] & !VALIDATED {
-                    table[entry] = before[entry];
+                let (old, new) = (entry(&before, hpa), entry(table, hpa));
+                if new.open() == old {
+                    old.put(table, frame_of(hpa));
                 }
             }
             answer
@@ -138,8 +138,8 @@ pub const FAULTS: [Planted; 16] = [
         name: "CENSUS counts pages that are not VALIDATED",
         make: |call, table, memory| match (call.make(table, memory), *call) {
             (Answer::Count(count), Call::Census { asid }) => {
-                let closed = |entry: &&[u64]| entry[0] & 0xf_ffff == asid | entry[0] & 3 << 16;
-                Answer::Count(count + table.chunks_exact(2).filter(closed).count() as u64)
+                let closed = |entry: &Entry| entry.asid == asid && !entry.validated;
+                Answer::Count(count + entries(table).filter(closed).count() as u64)
             }
             (answer, _) => answer,
         },
@@ -148,14 +148,8 @@ pub const FAULTS: [Planted; 16] = [
         name: "CENSUS counts a fixed page for its owner",
         make: |call, table, memory| match (call.make(table, memory), *call) {
             (Answer::Count(_), Call::Census { asid }) => {
-                let own = |entry: &&[u64]| entry[0] == asid | 6 << 16 || entry[0] == asid | 5 << 16;
-                let fixed = |entry: &&[u64]| entry[0] == asid | 14 << 16;
-                let entries = || table.chunks_exact(2);
-                let (own, fixed) = (
-                    entries().filter(own).count(),
-                    entries().filter(fixed).count(),
-                );
-                Answer::Count((own + fixed) as u64)
+                let own = |entry: &Entry| entry.asid == asid && entry.validated;
+                Answer::Count(entries(table).filter(own).count() as u64)
             }
             (answer, _) => answer,
         },

@@ -2,6 +2,7 @@
 
 use std::cell::Cell;
 
+use common::layout::{memory_words, table_words, Entry};
 use compare::monitor::{Monitor, Second};
 use compare::report::Report;
 use compare::run::{CALLS, SEED};
@@ -87,9 +88,10 @@ fn a_report_says_all_of_it() {
     let fault = &changes::FAULTS[0];
     assert_eq!(fault.name, "PMERGE leaves the merged entry as it was");
     let report = found(fault, 0).expect("the fault is found").to_string();
+    let (table, memory) = (table_words(3), memory_words(3));
     for part in [
-        "table of 6 words, memory of 1536;",
-        "    t[0] = e0001\n",
+        &format!("table of {table} words, memory of {memory};"),
+        &format!("    t[0] = {:x}\n", Entry::fixed(1, 0).words()[0]),
         "calls:\n    M 0 ",
         "    second: done\n",
         "    after it t[",

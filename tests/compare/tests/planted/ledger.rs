@@ -1,5 +1,6 @@
 //! Faults that both monitors have, so that they agree: the ledger of the histories has to find them.
 
+use common::layout::{frame_of, gpa_of, present, Entry};
 use compare::counts::Counts;
 use compare::histories;
 use compare::report::Report;
@@ -8,7 +9,7 @@ use compare::table::Table;
 use second::{Answer, Call};
 
 use crate::changes;
-use crate::monitors::{frame, words, Planted};
+use crate::monitors::{entry, leaf_word, words, Planted};
 
 fn found(fault: &Planted) -> Option<Box<Report>> {
     let (mut table, mut counts) = (Table::new(), Counts::default());
@@ -58,14 +59,13 @@ fn a_counter_that_goes_back_is_found() {
             let before = memory.to_vec();
             match (call.make(table, memory), *call) {
                 (Answer::Done, Call::Punmerge { hpa1, asid, .. }) => {
-                    let word = words(table[2 * frame(hpa1) + 1]).start + asid as usize;
-                    memory[word] = before[word] & !1;
+                    let word = leaf_word(table, hpa1, asid);
+                    memory[word] = gpa_of(before[word]);
                     Answer::Done
                 }
                 #[rustfmt::skip]
                 (Answer::Refused(13), Call::Read { caller, gpa, hpa, index, .. }) => {
-                    let leaf = words(table[2 * frame(hpa) + 1]).start;
-                    match memory[leaf + caller as usize] {
+                    match memory[leaf_word(table, hpa, caller)] {
                         word if word != 0 && word == gpa => {
                             Answer::Word(memory[words(hpa)][index as usize])
                         }
@@ -109,9 +109,8 @@ fn an_owner_that_writes_to_a_merged_page() {
                     ..
                 },
             ) => {
-                let leaf = words(table[2 * frame(hpa) + 1]).start;
-                let own = table[2 * frame(hpa)] & 0xffff == caller;
-                if own && memory[leaf + caller as usize] == gpa + 1 {
+                let own = entry(table, hpa).asid == caller;
+                if own && memory[leaf_word(table, hpa, caller)] == present(gpa) {
                     memory[words(hpa)][index as usize] = value;
                     return Answer::Done;
                 }
@@ -160,7 +159,11 @@ fn a_history_that_meets_5_or_12() {
         make: |call, table, memory| {
             let answer = call.make(table, memory);
             if let (Answer::Done, Call::Punmerge { hpa2, .. }) = (answer, *call) {
-                table[2 * frame(hpa2)] |= 1 << 19;
+                let copy = Entry {
+                    fixed: true,
+                    ..entry(table, hpa2)
+                };
+                copy.put(table, frame_of(hpa2));
             }
             answer
         },

@@ -1,5 +1,8 @@
 //! Monitors with a fault each: the second program, with one mistake that looks right.
 
+use std::ops::Range;
+
+use common::layout::{self, frame_at, frame_of, word_at, Entry};
 use compare::monitor::Monitor;
 use second::{Answer, Call};
 
@@ -21,14 +24,33 @@ impl Monitor for Planted {
     }
 }
 
-/// The number of the frame at an address.
-pub fn frame(hpa: u64) -> usize {
-    (hpa / 4096) as usize
+/// The entry of the frame at an address.
+pub fn entry(table: &[u64], hpa: u64) -> Entry {
+    Entry::at(table, frame_of(hpa))
 }
 
-/// Where the words of a frame are in memory.
-pub fn words(hpa: u64) -> std::ops::Range<usize> {
-    512 * frame(hpa)..512 * frame(hpa) + 512
+/// All entries of a table, by frame.
+pub fn entries(table: &[u64]) -> impl Iterator<Item = Entry> + '_ {
+    (0..layout::n(table)).map(|frame| Entry::at(table, frame))
+}
+
+/// Makes the frames SHARED that have such an entry.
+pub fn clear(table: &mut [u64], such: impl Fn(Entry) -> bool) {
+    for frame in 0..layout::n(table) {
+        if such(Entry::at(table, frame)) {
+            Entry::SHARED.put(table, frame);
+        }
+    }
+}
+
+/// Where the words of the frame at an address are in memory.
+pub fn words(hpa: u64) -> Range<usize> {
+    frame_at(frame_of(hpa))
+}
+
+/// Where a guest's word in the leaf of the fixed page at an address is in memory.
+pub fn leaf_word(table: &[u64], hpa: u64, asid: u64) -> usize {
+    word_at(frame_of(entry(table, hpa).address), asid as usize)
 }
 
 /// Makes the call on copies, and keeps what it did if it was accepted.

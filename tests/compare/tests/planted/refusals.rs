@@ -1,19 +1,24 @@
 //! Faults in what is refused, and with which number.
 
+use common::layout::{
+    self, frame_of, gpa_of, memory_words, table_words, word_at, Entry, ADDRESS_END, FRAME_BYTES,
+};
 use second::{Answer, Call};
 
-use crate::monitors::{accepted, frame, words, Planted};
+use crate::monitors::{accepted, clear, entries, entry, leaf_word, words, Planted};
 
-const FIXED: u64 = 1 << 19;
+/// Whether an entry is that of a fixed page, but for what its addresses are.
+fn is_fixed_page(entry: Entry) -> bool {
+    entry == Entry::fixed(entry.asid, entry.address)
+}
 
 pub const FAULTS: [Planted; 26] = [
     Planted {
         name: "PMERGE overwrites a leaf word (14 is skipped)",
         make: |call, table, memory| match (call.make(table, memory), *call) {
             (Answer::Refused(14), Call::Pmerge { hpa1, hpa2, .. }) => {
-                let leaf = words(table[2 * frame(hpa1) + 1]).start;
-                let guest = (table[2 * frame(hpa2)] & 0xffff) as usize;
-                accepted(call, table, memory, |_, memory| memory[leaf + guest] = 0)
+                let word = leaf_word(table, hpa1, entry(table, hpa2).asid);
+                accepted(call, table, memory, |_, memory| memory[word] = 0)
                     .unwrap_or(Answer::Refused(16))
             }
             (answer, _) => answer,
@@ -24,18 +29,12 @@ pub const FAULTS: [Planted; 26] = [
         make: |call, table, memory| match (call.make(table, memory), *call) {
             (Answer::Refused(15), Call::Pfix { leaf, .. }) => {
                 let before = table.to_vec();
-                let answer = accepted(call, table, memory, |table, _| {
-                    for entry in table.chunks_exact_mut(2) {
-                        if entry[0] & FIXED != 0 && entry[1] == leaf {
-                            entry.fill(0);
-                        }
-                    }
-                });
-                for (now, then) in table.chunks_exact_mut(2).zip(before.chunks_exact(2)) {
-                    if then[0] & FIXED != 0 && then[1] == leaf {
-                        now.copy_from_slice(then);
-                    }
-                }
+                let has_leaf = |entry: Entry| entry.fixed && entry.address == leaf;
+                let answer = accepted(call, table, memory, |table, _| clear(table, has_leaf));
+                let had_leaf = entries(&before)
+                    .enumerate()
+                    .filter(|&(_, entry)| has_leaf(entry));
+                had_leaf.for_each(|(frame, entry)| entry.put(table, frame));
                 answer.unwrap_or(Answer::Refused(15))
             }
             (answer, _) => answer,
@@ -46,7 +45,7 @@ pub const FAULTS: [Planted; 26] = [
         make: |call, table, memory| match (call.make(table, memory), *call) {
             #[rustfmt::skip]
             (Answer::Refused(7), Call::Read { gpa, hpa, gtype, ntype, index, .. }) => {
-                let caller = table[2 * frame(hpa)] & 0xffff;
+                let caller = entry(table, hpa).asid;
                 Call::Read { caller, gpa, hpa, gtype, ntype, index }.make(table, memory)
             }
             (answer, _) => answer,
@@ -55,10 +54,8 @@ pub const FAULTS: [Planted; 26] = [
     Planted {
         name: "READ of a fixed page does not check the address (8)",
         make: |call, table, memory| match (call.make(table, memory), *call) {
-            (Answer::Refused(8), Call::Read { hpa, index, .. })
-                if table[2 * frame(hpa)] & FIXED != 0 =>
-            {
-                Answer::Word(memory[words(hpa).start + index as usize])
+            (Answer::Refused(8), Call::Read { hpa, index, .. }) if entry(table, hpa).fixed => {
+                Answer::Word(memory[words(hpa)][index as usize])
             }
             (answer, _) => answer,
         },
@@ -68,14 +65,14 @@ pub const FAULTS: [Planted; 26] = [
         make: |call, table, memory| match (call.make(table, memory), *call) {
             #[rustfmt::skip]
             (Answer::Refused(8), Call::Read { caller, hpa, gtype, ntype, index, .. })
-                if table[2 * frame(hpa)] & FIXED == 0 =>
+                if !entry(table, hpa).fixed =>
             {
-                let gpa = table[2 * frame(hpa) + 1];
+                let gpa = entry(table, hpa).address;
                 Call::Read { caller, gpa, hpa, gtype, ntype, index }.make(table, memory)
             }
             #[rustfmt::skip]
             (Answer::Refused(8), Call::Write { caller, hpa, gtype, ntype, index, value, .. }) => {
-                let gpa = table[2 * frame(hpa) + 1];
+                let gpa = entry(table, hpa).address;
                 Call::Write { caller, gpa, hpa, gtype, ntype, index, value }.make(table, memory)
             }
             (answer, _) => answer,
@@ -86,7 +83,7 @@ pub const FAULTS: [Planted; 26] = [
         make: |call, table, memory| match (call.make(table, memory), *call) {
             #[rustfmt::skip]
             (Answer::Refused(8), Call::Pvalidate { caller, hpa, kind, .. }) => {
-                let gpa = table[2 * frame(hpa) + 1];
+                let gpa = entry(table, hpa).address;
                 Call::Pvalidate { caller, gpa, hpa, kind }.make(table, memory)
             }
             (answer, _) => answer,
@@ -96,11 +93,15 @@ pub const FAULTS: [Planted; 26] = [
         name: "PFIX gives a fixed page another leaf (10 is skipped)",
         make: |call, table, memory| match (call.make(table, memory), *call) {
             (Answer::Refused(10), Call::Pfix { hpa, leaf, .. }) => {
-                let entry = 2 * frame(hpa);
+                let page = entry(table, hpa);
+                let unfixed = Entry {
+                    fixed: false,
+                    ..page
+                };
                 let answer = accepted(call, table, memory, |table, _| {
                     // its own leaf is in use
-                    if table[entry + 1] != leaf {
-                        table[entry] &= !FIXED;
+                    if page.address != leaf {
+                        unfixed.put(table, frame_of(hpa));
                     }
                 });
                 answer.unwrap_or(Answer::Refused(15))
@@ -119,7 +120,7 @@ pub const FAULTS: [Planted; 26] = [
                     gtype: 2,
                     ..
                 },
-            ) if table[2 * frame(hpa)] & 0xffff != caller => Answer::Refused(7),
+            ) if entry(table, hpa).asid != caller => Answer::Refused(7),
             (answer, _) => answer,
         },
     },
@@ -127,7 +128,7 @@ pub const FAULTS: [Planted; 26] = [
         name: "PVALIDATE checks 8 before 10",
         make: |call, table, memory| match (call.make(table, memory), *call) {
             (Answer::Refused(10), Call::Pvalidate { gpa, hpa, .. })
-                if table[2 * frame(hpa) + 1] != gpa =>
+                if entry(table, hpa).address != gpa =>
             {
                 Answer::Refused(8)
             }
@@ -137,9 +138,7 @@ pub const FAULTS: [Planted; 26] = [
     Planted {
         name: "PVALIDATE checks 10 before 7",
         make: |call, table, memory| match (call.make(table, memory), *call) {
-            (Answer::Refused(7), Call::Pvalidate { hpa, .. })
-                if table[2 * frame(hpa)] & FIXED != 0 =>
-            {
+            (Answer::Refused(7), Call::Pvalidate { hpa, .. }) if entry(table, hpa).fixed => {
                 Answer::Refused(10)
             }
             (answer, _) => answer,
@@ -148,7 +147,7 @@ pub const FAULTS: [Planted; 26] = [
     Planted {
         name: "PUNFIX checks 4 before 3",
         make: |call, table, memory| match (call.make(table, memory), *call) {
-            (Answer::Refused(3), Call::Punfix { hpa, .. }) if frame(hpa) >= table.len() / 2 => {
+            (Answer::Refused(3), Call::Punfix { hpa, .. }) if frame_of(hpa) >= layout::n(table) => {
                 Answer::Refused(4)
             }
             (answer, _) => answer,
@@ -170,7 +169,7 @@ pub const FAULTS: [Planted; 26] = [
         make: |call, table, memory| match (call.make(table, memory), *call) {
             (Answer::Refused(16), Call::Pmerge { hpa1, hpa2, .. }) => {
                 let last = memory[words(hpa1)][511];
-                let place = words(hpa2).start + 511;
+                let place = word_at(frame_of(hpa2), 511);
                 accepted(call, table, memory, |_, memory| memory[place] = last)
                     .unwrap_or(Answer::Refused(16))
             }
@@ -181,9 +180,11 @@ pub const FAULTS: [Planted; 26] = [
         name: "PUNFIX passes over misshapen words (17)",
         make: |call, table, memory| match (call.make(table, memory), *call) {
             (Answer::Refused(17), Call::Punfix { hpa, .. }) => {
-                let leaf = words(table[2 * frame(hpa) + 1]);
+                let leaf = words(entry(table, hpa).address);
                 accepted(call, table, memory, |_, memory| {
-                    let misshapen = |word: &&mut u64| **word & 0xfff0_0000_0000_0ffe != 0;
+                    let is_address =
+                        |gpa: u64| gpa < ADDRESS_END && gpa.is_multiple_of(FRAME_BYTES);
+                    let misshapen = |word: &&mut u64| !is_address(gpa_of(**word));
                     memory[leaf]
                         .iter_mut()
                         .filter(misshapen)
@@ -197,7 +198,7 @@ pub const FAULTS: [Planted; 26] = [
     Planted {
         name: "a WRITE beyond N is refused with 4",
         make: |call, table, memory| match *call {
-            Call::Write { hpa, .. } if frame(hpa) >= table.len() / 2 => {
+            Call::Write { hpa, .. } if frame_of(hpa) >= layout::n(table) => {
                 let mut copy = memory.to_vec();
                 match call.make(table, &mut copy) {
                     Answer::Done => Answer::Refused(4),
@@ -211,8 +212,7 @@ pub const FAULTS: [Planted; 26] = [
         name: "a leaf word is present where it is not 0",
         make: |call, table, memory| match (call.make(table, memory), *call) {
             (Answer::Refused(13), Call::Read { caller, hpa, .. }) => {
-                let leaf = words(table[2 * frame(hpa) + 1]).start;
-                match memory[leaf + caller as usize] {
+                match memory[leaf_word(table, hpa, caller)] {
                     0 => Answer::Refused(13),
                     _ => Answer::Refused(8),
                 }
@@ -233,11 +233,7 @@ pub const FAULTS: [Planted; 26] = [
             (Answer::Refused(12), Call::Census { asid }) => {
                 // what the frames give if every fixed page were passed over
                 let mut plain = table.to_vec();
-                for entry in plain.chunks_exact_mut(2) {
-                    if entry[0] >> 16 == 0xe {
-                        entry.fill(0);
-                    }
-                }
+                clear(&mut plain, is_fixed_page);
                 match (Call::Census { asid }).make(&mut plain, memory) {
                     Answer::Refused(5) => Answer::Refused(5),
                     _ => Answer::Refused(12),
@@ -249,7 +245,9 @@ pub const FAULTS: [Planted; 26] = [
     Planted {
         name: "a table of 4,097 frames is accepted",
         make: |call, table, memory| match table.len() {
-            8194 if memory.len() > 512 * 4096 => call.make(&mut table[..8192], memory),
+            length if length == table_words(4097) && memory.len() > memory_words(4096) => {
+                call.make(&mut table[..table_words(4096)], memory)
+            }
             _ => call.make(table, memory),
         },
     },
@@ -257,7 +255,7 @@ pub const FAULTS: [Planted; 26] = [
         name: "an address is cut to 44 bits",
         make: |call, table, memory| match *call {
             #[rustfmt::skip]
-            Call::Read { caller, gpa, hpa, gtype, ntype, index } if hpa < 1 << 52 => {
+            Call::Read { caller, gpa, hpa, gtype, ntype, index } if hpa < ADDRESS_END => {
                 let hpa = hpa & ((1 << 44) - 1);
                 Call::Read { caller, gpa, hpa, gtype, ntype, index }.make(table, memory)
             }
@@ -266,22 +264,22 @@ pub const FAULTS: [Planted; 26] = [
     },
     Planted {
         name: "a memory of 8,193 frames is accepted",
-        make: |call, table, memory| match memory.len() / 512 {
-            8193 => call.make(table, &mut memory[..512 * 8192]),
+        make: |call, table, memory| match layout::m(memory) {
+            8193 => call.make(table, &mut memory[..memory_words(8192)]),
             _ => call.make(table, memory),
         },
     },
     Planted {
         name: "the odd word of a table is passed over",
         make: |call, table, memory| {
-            let length = table.len() & !1;
+            let length = table_words(layout::n(table));
             call.make(&mut table[..length], memory)
         },
     },
     Planted {
         name: "memory after the last whole frame is passed over",
         make: |call, table, memory| {
-            let length = memory.len() / 512 * 512;
+            let length = memory_words(layout::m(memory));
             call.make(table, &mut memory[..length])
         },
     },
@@ -289,8 +287,8 @@ pub const FAULTS: [Planted; 26] = [
         name: "a leaf at N is well formed",
         make: |call, table, memory| match (call.make(table, memory), *call) {
             (Answer::Refused(5), Call::Punfix { hpa, .. })
-                if table[2 * frame(hpa)] >> 16 == 0xe
-                    && frame(table[2 * frame(hpa) + 1]) == table.len() / 2 =>
+                if is_fixed_page(entry(table, hpa))
+                    && frame_of(entry(table, hpa).address) == layout::n(table) =>
             {
                 Answer::Refused(12)
             }
@@ -301,11 +299,13 @@ pub const FAULTS: [Planted; 26] = [
         name: "15 does not look at the last entry",
         make: |call, table, memory| match (call.make(table, memory), *call) {
             (Answer::Refused(15), Call::Pfix { .. }) => {
-                let last = table.len() - 2;
-                let saved = [table[last], table[last + 1]];
-                let answer = accepted(call, table, memory, |table, _| table[last..].fill(0));
+                let last = layout::n(table) - 1;
+                let saved = Entry::at(table, last);
+                let answer = accepted(call, table, memory, |table, _| {
+                    Entry::SHARED.put(table, last);
+                });
                 if answer.is_some() {
-                    table[last..].copy_from_slice(&saved);
+                    saved.put(table, last);
                 }
                 answer.unwrap_or(Answer::Refused(15))
             }
@@ -315,10 +315,11 @@ pub const FAULTS: [Planted; 26] = [
     Planted {
         name: "CENSUS stops before the last frame",
         make: |call, table, memory| match *call {
-            Call::Census { .. } if table.len() > 2 && table.len() <= memory.len() / 256 => {
-                let last = table.len() - 2;
+            Call::Census { .. }
+                if layout::n(table) > 1 && layout::n(table) <= layout::m(memory) =>
+            {
                 let mut copy = table.to_vec();
-                copy[last..].fill(0);
+                Entry::SHARED.put(&mut copy, layout::n(table) - 1);
                 match call.make(table, memory) {
                     Answer::Refused(5) | Answer::Count(_) => call.make(&mut copy, memory),
                     answer => answer,
