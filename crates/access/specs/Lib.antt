@@ -1,3 +1,2 @@
--- The code's holdings and tallies in the words of the rules, and the parts of an access.
-pub mod Census
+-- The parts of an access.
 pub mod Reached

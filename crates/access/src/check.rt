@@ -22,8 +22,8 @@ use entries::entry::Entry;
 use entries::entry::SHARED;
 use entries::entry::frame_of;
 use entries::leaf::LeafWord;
-use entries::table;
 use needs::gates;
+use rmp::table;
 
 // Whether an access writes.
 pub const READING: bool = false;

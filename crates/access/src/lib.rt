@@ -1,4 +1,3 @@
-// READ, WRITE and CENSUS: the check on each access, and how many places a guest has.
-pub mod census;
+// READ and WRITE, and the check on each access.
 pub mod check;
 pub mod transfer;

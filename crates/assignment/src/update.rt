@@ -15,9 +15,9 @@ use checks::pages;
 use checks::passed::Page;
 use entries::entry::Entry;
 use entries::entry::frame_of;
-use entries::table;
 use frames::frame;
 use needs::gates;
+use rmp::table;
 
 // The host gives the frame at `hpa` to the guest `asid` at its address `gpa`, as a page of the type `kind`, or takes it back.
 pub fn rmpupdate(

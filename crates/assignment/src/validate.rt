@@ -13,8 +13,8 @@ use checks::pages;
 use checks::passed::Page;
 use entries::entry::Entry;
 use entries::entry::frame_of;
-use entries::table;
 use needs::gates;
+use rmp::table;
 
 // The guest `caller` accepts the frame at `hpa` as its page at `gpa`.
 pub fn pvalidate(

@@ -4,7 +4,7 @@ ghost use mathlib.Core.Bool.{not};
 ghost use lib.Dec.{ltb};
 ghost use Rattle.words.specs.Choice.{_and_};
 ghost use Rattle.entries.specs.Entry.{frameOf, isGuest};
-ghost use Rattle.entries.specs.Table.{covered};
+ghost use Rattle.rmp.specs.Table.{covered};
 ghost use Rattle.rules.specs.Answers.{Verdict, unless, begins};
 ghost use Rattle.rules.specs.Arguments.{isHost, updateArguments, validateArguments, twoFrameArguments, unmergeArguments};
 ghost use Rattle.rules.specs.Arguments.{oneFrameArguments, accessArguments, mayAccess};
@@ -17,8 +17,8 @@ use crate::gate::Gate;
 use crate::gate::go_on;
 use entries::entry::frame_of;
 use entries::entry::is_guest;
-use entries::table;
 use frames::frame;
+use rmp::table;
 
 // Whether table and memory have the sizes that the rules ask for.
 fn sizes_hold(table: &[u64], memory: &[u64]) -> bool

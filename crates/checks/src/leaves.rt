@@ -12,8 +12,8 @@ use entries::entry::LEAF;
 use entries::entry::frame_of;
 use entries::leaf::LeafWord;
 use entries::leaf::leaf_word;
-use entries::table;
 use frames::frame;
+use rmp::table;
 
 fn is_leaf(decoded: Decoded) -> bool
     ensures { λ r. ⌜ r ≡ isLeaf decoded ⌝ }

@@ -1,7 +1,7 @@
 // The entries of the frames that a call names, decoded: a call goes on only with decoded entries.
 ghost use mathlib.Core.Path.{_≡_};
 ghost use Rattle.entries.specs.Entry.{frameOf};
-ghost use Rattle.entries.specs.Table.{entryIn};
+ghost use Rattle.rmp.specs.Table.{entryIn};
 ghost use Rattle.checks.specs.Pages.{pageOf, andPage};
 use crate::answer::Refusal;
 use crate::gate::Gate;
@@ -9,7 +9,7 @@ use crate::passed::Page;
 use crate::passed::Pages;
 use entries::entry::Decoded;
 use entries::entry::frame_of;
-use entries::table;
+use rmp::table;
 
 // After the checks of `begun`: 5 of the first named frame, at `hpa`.
 pub fn first(table: &[u64], begun: Gate, hpa: u64) -> Page

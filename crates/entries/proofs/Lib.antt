@@ -1,7 +1,5 @@
 -- The laws that the proofs of `entries`, and of the crates above it, cite; and the paper's examples.
-pub mod ByType
 pub mod EntryLaws
 pub mod Examples
 pub mod LeafLaws
-pub mod TableLaws
 pub mod Tells

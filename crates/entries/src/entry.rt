@@ -1,8 +1,7 @@
-// An entry of the RMP and its two words.
+// An entry of the RMP, and the numbers in it.
 ghost use mathlib.Core.Path.{_≡_};
 ghost use Rattle.entries.specs.Entry.{isAddress, frameOf, isParty, isGuest, isOwned, isUnowned};
-ghost use Rattle.entries.specs.Entry.{wellFormed, fields, decoded};
-ghost use Rattle.entries.specs.Entry.{zeroEntry, bit, encoded, toValidated, toFixed, toUnfixed, toMoved};
+ghost use Rattle.entries.specs.Entry.{zeroEntry, toValidated, toFixed, toUnfixed, toMoved};
 
 // The types of a page.
 pub const SHARED: u64 = 0;
@@ -76,12 +75,6 @@ pub fn is_unowned(kind: u64) -> bool
     (kind == SHARED) | (kind == LEAF)
 }
 
-fn bit(b: bool) -> u64
-    ensures { λ r. ⌜ r ≡ bit b ⌝ }
-{
-    if b { 1 } else { 0 }
-}
-
 impl Entry {
     // The entry of two zero words: SHARED.
     pub fn zero() -> Entry
@@ -94,42 +87,6 @@ impl Entry {
             fixed: false,
             address: 0,
         }
-    }
-
-    // Whether a table of so many frames may hold this entry. The type is looked at once, and then what it asks for: every entry that a
-    // call reads passes through here.
-    pub fn well_formed(self, frames: usize) -> bool
-        ensures { λ r. ⌜ r ≡ wellFormed frames self ⌝ }
-    {
-        let owned = is_owned(self.kind);
-        if owned {
-            let placed = is_guest(self.asid) & is_address(self.address);
-            let fixed = self.fixed;
-            if fixed {
-                return placed
-                    & (self.kind == MERGEABLE)
-                    & self.validated
-                    & (frame_of(self.address) < frames);
-            }
-            return placed;
-        }
-        is_unowned(self.kind)
-            & (self.asid == 0)
-            & (!self.validated & !self.fixed)
-            & (self.address == 0)
-    }
-
-    // Its two words.
-    pub fn encode(self) -> Words
-        ensures { λ r. ⌜ r ≡ encoded self ⌝ }
-    {
-        Words(
-            self.asid % 0x10000
-                + 0x10000 * (self.kind % 4)
-                + 0x40000 * bit(self.validated)
-                + 0x80000 * bit(self.fixed),
-            self.address,
-        )
     }
 
     // The entry with VALIDATED set.
@@ -183,26 +140,4 @@ impl Entry {
             address: gpa,
         }
     }
-}
-
-// The fields of two words, whatever they are.
-fn fields(word0: u64, word1: u64) -> Entry
-    ensures { λ r. ⌜ r ≡ fields word0 word1 ⌝ }
-{
-    Entry {
-        asid: word0 % 0x10000,
-        kind: word0 / 0x10000 % 4,
-        validated: word0 / 0x40000 % 2 == 1,
-        fixed: word0 / 0x80000 % 2 == 1,
-        address: word1,
-    }
-}
-
-// The entry that two words of a table of so many frames hold.
-pub fn decode(frames: usize, word0: u64, word1: u64) -> Decoded
-    ensures { λ r. ⌜ r ≡ decoded frames word0 word1 ⌝ }
-{
-    let e = fields(word0, word1);
-    let good = (word0 / 0x100000 == 0) & e.well_formed(frames);
-    if good { Decoded::Good(e) } else { Decoded::Bad }
 }

@@ -16,10 +16,10 @@ use Rattle.words.specs.Choice.{_and_, _or_}
 use Rattle.words.proofs.ChoiceLaws.{lt-or-le, and-not}
 use Rattle.frames.specs.Frame.{wordIn, oddIn}
 use Rattle.frames.proofs.FrameLaws.{word-past}
-use Rattle.entries.specs.Table.{entryIn, addressIn}
 use Rattle.entries.specs.declared.entry.Decoded.{Decoded}
 use Rattle.entries.specs.declared.entry.Decoded.the-variants.{Good, Bad}
-use Rattle.entries.proofs.TableLaws.{entry-address}
+use Rattle.rmp.specs.Table.{entryIn, addressIn}
+use Rattle.rmp.proofs.TableLaws.{entry-address}
 use Rattle.rules.specs.Leaves.{namesLeaf, leafInUse, isSharedBy, stillShared}
 use Rattle.rules.specs.State.{State, state, entryAt, wordAt}
 

@@ -16,9 +16,9 @@ use checks::passed::Pages;
 use entries::entry::Entry;
 use entries::entry::frame_of;
 use entries::leaf::present_at;
-use entries::table;
 use frames::frame;
 use needs::gates;
+use rmp::table;
 
 // The page at `hpa` is fixed, with the LEAF frame at `leaf` as its leaf: its owner is the first guest in it.
 pub fn pfix(table: &mut [u64], memory: &mut [u64], caller: u64, hpa: u64, leaf: u64) -> Answer

@@ -2,12 +2,12 @@
 ghost use mathlib.Core.Path.{_≡_};
 ghost use mathlib.Core.List.{List};
 ghost use Prim.Native.Nat.{ℕ};
-ghost use Rattle.entries.specs.Table.{covered, entryIn};
+ghost use Rattle.rmp.specs.Table.{covered, entryIn};
 ghost use Rattle.rules.specs.Leaves.{namesLeaf, leafInUse, stillShared};
 ghost use Rattle.rules.specs.State.{state};
 use entries::entry::Decoded;
-use entries::table;
 use frames::frame;
+use rmp::table;
 
 fn names_leaf(decoded: Decoded, leaf: u64) -> bool
     ensures { λ r. ⌜ r ≡ namesLeaf decoded leaf ⌝ }

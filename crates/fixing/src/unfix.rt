@@ -18,9 +18,9 @@ use checks::passed::Place;
 use entries::entry::Entry;
 use entries::entry::frame_of;
 use entries::leaf::LeafWord;
-use entries::table;
 use frames::frame;
 use needs::gates;
+use rmp::table;
 
 // The page at `hpa` is its owner's again, at the address that the leaf has for it, and the leaf becomes SHARED.
 pub fn punfix(table: &mut [u64], memory: &mut [u64], caller: u64, hpa: u64) -> Answer

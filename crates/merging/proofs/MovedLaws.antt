@@ -8,11 +8,11 @@ use Prim.Native.Nat.{ℕ}
 use native.Mathlib.Omega.{arith}
 use Rattle.words.specs.Choice.{pick}
 use Rattle.entries.specs.Entry.{MERGEABLE, entry, toMoved}
-use Rattle.entries.specs.Table.{entryIn}
 use Rattle.entries.specs.declared.entry.Entry.{Entry}
 use Rattle.entries.specs.declared.entry.Decoded.the-variants.{Good}
-use Rattle.entries.proofs.TableLaws.{entry-good}
 use Rattle.entries.proofs.Tells.{tells, moved-is}
+use Rattle.rmp.specs.Table.{entryIn}
+use Rattle.rmp.proofs.TableLaws.{entry-good}
 use Rattle.rules.specs.Answers.{Told, done, Verdict, refuse, grant, unless}
 use Rattle.rules.specs.Refusals.{TYPE, NOT-FIXED}
 use Rattle.rules.specs.State.{State, emptyTable}

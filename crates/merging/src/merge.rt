@@ -16,9 +16,9 @@ use checks::passed::Pages;
 use entries::entry::Entry;
 use entries::entry::frame_of;
 use entries::leaf::present_at;
-use entries::table;
 use frames::frame;
 use needs::gates;
+use rmp::table;
 
 // The page at `hpa2` moves into the fixed page at `hpa1`, and its frame becomes SHARED.
 pub fn pmerge(table: &mut [u64], memory: &mut [u64], caller: u64, hpa1: u64, hpa2: u64) -> Answer

@@ -18,9 +18,9 @@ use checks::passed::Place;
 use entries::entry::Entry;
 use entries::entry::frame_of;
 use entries::leaf::LeafWord;
-use entries::table;
 use frames::frame;
 use needs::gates;
+use rmp::table;
 
 // The guest `asid` moves out of the fixed page at `hpa1` into the SHARED frame at `hpa2`.
 pub fn punmerge(

@@ -17,8 +17,8 @@ use Rattle.frames.proofs.FrameLaws.{same-words}
 use Rattle.entries.specs.Entry.{frameOf, zeroEntry, wellFormed}
 use Rattle.entries.specs.declared.entry.Entry.{Entry}
 use Rattle.entries.specs.declared.entry.Decoded.the-variants.{Good, Bad}
-use Rattle.entries.proofs.TableLaws.{covered-put, whole-put, entry-put-same, entry-put-other, put-same, entry-good, entry-empty}
 use Rattle.entries.proofs.Tells.{Tells, tells}
+use Rattle.rmp.proofs.TableLaws.{covered-put, whole-put, entry-put-same, entry-put-other, put-same, entry-good, entry-empty}
 use Rattle.rules.specs.State.{State, emptyTable, N, M, sized, covers, entryAt, wordAt, frameAt, differingAt, withEntry, withWord}
 use Rattle.rules.specs.State.{withFrame}
 

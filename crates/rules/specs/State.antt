@@ -8,9 +8,9 @@ use lib.ListN.{replicate}
 use Rattle.words.specs.Choice.{_and_}
 use Rattle.frames.specs.Frame.{frameCount, isFramed, wordIn, frameIn, putWord, putFrame, differingIn}
 use Rattle.entries.specs.Entry.{frameOf}
-use Rattle.entries.specs.Table.{covered, isWhole, entryIn, putEntry}
 use Rattle.entries.specs.declared.entry.Entry.{Entry}
 use Rattle.entries.specs.declared.entry.Decoded.{Decoded}
+use Rattle.rmp.specs.Table.{covered, isWhole, entryIn, putEntry}
 
 pub record State : Type 0 where
   pub table : List ℕ

@@ -6,7 +6,7 @@ use Rattle.frames.specs.Frame.{frameCount, isFramed, wordIn, frameIn, zeros, pu
 use Rattle.entries.specs.Entry.{isAddress, frameOf, isParty, isGuest, isOwned, isUnowned, entry, zeroEntry, asidFits, flagsFit}
 use Rattle.entries.specs.Entry.{addressFits, wellFormed, fields, decoded, bit, encoded, toValidated, toFixed, toUnfixed}
 use Rattle.entries.specs.Leaf.{leafWord, presentAt}
-use Rattle.entries.specs.Table.{covered, isWhole, entryIn, putEntry}
+use Rattle.rmp.specs.Table.{covered, isWhole, entryIn, putEntry}
 use Rattle.rules.specs.Access.{unfixedAccess, fixedAccess, coveredAccess, access, read, write}
 use Rattle.rules.specs.Answers.{Outcome, settle, unless, when, begins, entered, bothEntered}
 use Rattle.rules.specs.Arguments.{isHost, updateArguments, validateArguments, twoFrameArguments, unmergeArguments}

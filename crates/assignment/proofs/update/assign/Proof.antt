@@ -8,8 +8,8 @@ use borrow.Author.Needs.{needs}
 use Rattle.words.specs.Choice.{pick}
 use Rattle.frames.specs.Frame.{zeros, putFrame}
 use Rattle.entries.specs.Entry.{entry}
-use Rattle.entries.specs.Table.{putEntry}
 use Rattle.entries.specs.declared.entry.Entry.{Entry}
+use Rattle.rmp.specs.Table.{putEntry}
 use Rattle.rules.specs.Assignment.{assigning}
 use Rattle.rules.specs.State.{state, withEntry, withFrame}
 use Rattle.assignment.proofs.update.assign.Statement.{statement}
