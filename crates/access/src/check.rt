@@ -13,16 +13,18 @@ ghost use Rattle.rules.specs.State.{state, M};
 ghost use Rattle.checks.specs.Gate.{past};
 ghost use Rattle.access.specs.Reached.{reached, coveredReached, frameReached, pageAccess};
 use checks::answer::Refusal;
-use checks::begin;
+use checks::begin::begin_access;
+use checks::begin::covers;
 use checks::gate::Gate;
-use checks::gate::go_on;
 use checks::leaves;
 use entries::entry::Decoded;
 use entries::entry::Entry;
 use entries::entry::SHARED;
 use entries::entry::frame_of;
 use entries::leaf::LeafWord;
-use needs::gates;
+use needs::gates::access_type_met;
+use needs::gates::fixed_access_met;
+use needs::gates::unfixed_access_met;
 use rmp::table;
 
 // Whether an access writes.
@@ -54,11 +56,8 @@ pub fn begun(
         (ltb (frameOf hpa) (M (state (now (table .entry)) (now (memory .entry)))))
         (unless (eqb gtype ntype) TYPE v)) ⌝ }
 {
-    let begun = begin::access(table, memory, caller, gpa, hpa, gtype, ntype, index);
-    if let Gate::Shut(refusal) = begun {
-        return Gate::Shut(refusal);
-    }
-    go_on(gtype == ntype, Refusal::PageType, Gate::Open)
+    let begun = begin_access(table, memory, caller, gpa, hpa, gtype, ntype, index);
+    begun.and_then(gtype == ntype, Refusal::PageType)
 }
 
 // Of a frame that the table covers: 5, 6. Of any other: 6 unless SHARED.
@@ -66,7 +65,7 @@ pub fn reach(table: &[u64], writes: bool, hpa: u64, gtype: u64) -> Reached
     ensures { λ r. ⌜ ((memory : List ℕ) (v : Verdict) (page : Entry → Verdict) → reached r v page
         ≡ frameReached (state (now (table .entry)) memory) hpa gtype v page) ⌝ }
 {
-    let inside = begin::covers(table, hpa);
+    let inside = covers(table, hpa);
     if inside {
         return reach_covered(table, writes, hpa, gtype);
     }
@@ -84,7 +83,7 @@ fn reach_covered(table: &[u64], writes: bool, hpa: u64, gtype: u64) -> Reached
     let Decoded::Good(page) = table::read(table, frame_of(hpa)) else {
         return Reached::Refused(Refusal::BadEntry);
     };
-    let met = gates::access_type(writes, page.kind, gtype);
+    let met = access_type_met(writes, page.kind, gtype);
     if let Gate::Shut(refusal) = met {
         return Reached::Refused(refusal);
     }
@@ -116,7 +115,7 @@ pub fn allowed(
     if is_fixed {
         return fixed(table, memory, writes, caller, gpa, page);
     }
-    gates::unfixed_access(writes, page, caller, gpa)
+    unfixed_access_met(writes, page, caller, gpa)
 }
 
 // Of a fixed page: the caller's word in its leaf decides.
@@ -124,7 +123,7 @@ fn fixed(table: &[u64], memory: &[u64], writes: bool, caller: u64, gpa: u64, pag
     ensures { λ g. ⌜ ((v : Verdict) → past g v
         ≡ fixedAccess (state (now (table .entry)) (now (memory .entry))) writes caller gpa page v) ⌝ }
 {
-    let may = gates::fixed_access(writes);
+    let may = fixed_access_met(writes);
     if let Gate::Shut(refusal) = may {
         return Gate::Shut(refusal);
     }
@@ -132,6 +131,6 @@ fn fixed(table: &[u64], memory: &[u64], writes: bool, caller: u64, gpa: u64, pag
     match word {
         LeafWord::Misshapen => Gate::Shut(Refusal::BrokenLeaf),
         LeafWord::Absent => Gate::Shut(Refusal::NoPlace),
-        LeafWord::Present(held) => go_on(held == gpa, Refusal::Address, Gate::Open),
+        LeafWord::Present(held) => Gate::Open.and_then(held == gpa, Refusal::Address),
     }
 }

@@ -7,16 +7,16 @@ ghost use Rattle.rules.specs.Answers.{grant, settle};
 ghost use Rattle.rules.specs.Assignment.{assigning, updateAnswer, rmpupdate};
 ghost use Rattle.rules.specs.State.{state};
 ghost use Rattle.checks.specs.Answer.{told, gave};
-ghost use Rattle.checks.specs.Passed.{withPage};
+ghost use Rattle.checks.specs.Passed.{withNamed};
 use checks::answer::Answer;
-use checks::begin;
+use checks::begin::begin_update;
 use checks::gate::Gate;
-use checks::pages;
-use checks::passed::Page;
+use checks::named;
+use checks::passed::Named;
 use entries::entry::Entry;
 use entries::entry::frame_of;
 use frames::frame;
-use needs::gates;
+use needs::gates::update_needs_met;
 use rmp::table;
 
 // The host gives the frame at `hpa` to the guest `asid` at its address `gpa`, as a page of the type `kind`, or takes it back.
@@ -33,8 +33,8 @@ pub fn rmpupdate(
         ≡ rmpupdate (state (now (table .entry)) (now (memory .entry))) caller hpa gpa asid kind ⌝ }
 {
     match check_update(table, memory, caller, hpa, gpa, asid, kind) {
-        Page::Refused(refusal) => Answer::Refused(refusal),
-        Page::Good(old) => {
+        Named::Refused(refusal) => Answer::Refused(refusal),
+        Named::Good(old) => {
             assign(table, memory, frame_of(hpa), old, gpa, asid, kind);
             update_answer(old)
         }
@@ -49,19 +49,19 @@ fn check_update(
     gpa: u64,
     asid: u64,
     kind: u64,
-) -> Page
+) -> Named
     ensures { λ r. ⌜ rmpupdate (state (now (table .entry)) (now (memory .entry))) caller hpa gpa asid kind
-        ≡ settle (state (now (table .entry)) (now (memory .entry))) (withPage r λ old.
+        ≡ settle (state (now (table .entry)) (now (memory .entry))) (withNamed r λ old.
         grant (updateAnswer old) (assigning (state (now (table .entry)) (now (memory .entry))) (frameOf hpa) old gpa asid kind)) ⌝ }
 {
-    let begun = begin::rmpupdate(table, memory, caller, hpa, gpa, asid, kind);
-    let named = pages::first(table, begun, hpa);
-    let Page::Good(old) = named else {
+    let begun = begin_update(table, memory, caller, hpa, gpa, asid, kind);
+    let named = named::first(table, begun, hpa);
+    let Named::Good(old) = named else {
         return named;
     };
-    let met = gates::rmpupdate(old);
+    let met = update_needs_met(old);
     if let Gate::Shut(refusal) = met {
-        return Page::Refused(refusal);
+        return Named::Refused(refusal);
     }
     named
 }

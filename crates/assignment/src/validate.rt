@@ -5,15 +5,15 @@ ghost use Rattle.rules.specs.Answers.{grant, settle};
 ghost use Rattle.rules.specs.Assignment.{validating, validateAnswer, pvalidate};
 ghost use Rattle.rules.specs.State.{state};
 ghost use Rattle.checks.specs.Answer.{told, gave};
-ghost use Rattle.checks.specs.Passed.{withPage};
+ghost use Rattle.checks.specs.Passed.{withNamed};
 use checks::answer::Answer;
-use checks::begin;
+use checks::begin::begin_validate;
 use checks::gate::Gate;
-use checks::pages;
-use checks::passed::Page;
+use checks::named;
+use checks::passed::Named;
 use entries::entry::Entry;
 use entries::entry::frame_of;
-use needs::gates;
+use needs::gates::validate_needs_met;
 use rmp::table;
 
 // The guest `caller` accepts the frame at `hpa` as its page at `gpa`.
@@ -29,8 +29,8 @@ pub fn pvalidate(
         ≡ pvalidate (state (now (table .entry)) (now (memory .entry))) caller gpa hpa kind ⌝ }
 {
     match check_validate(table, memory, caller, gpa, hpa, kind) {
-        Page::Refused(refusal) => Answer::Refused(refusal),
-        Page::Good(page) => {
+        Named::Refused(refusal) => Answer::Refused(refusal),
+        Named::Good(page) => {
             let opened = page.to_validated();
             table::put(table, frame_of(hpa), opened);
             validate_answer(page)
@@ -38,19 +38,26 @@ pub fn pvalidate(
     }
 }
 
-fn check_validate(table: &[u64], memory: &[u64], caller: u64, gpa: u64, hpa: u64, kind: u64) -> Page
+fn check_validate(
+    table: &[u64],
+    memory: &[u64],
+    caller: u64,
+    gpa: u64,
+    hpa: u64,
+    kind: u64,
+) -> Named
     ensures { λ r. ⌜ pvalidate (state (now (table .entry)) (now (memory .entry))) caller gpa hpa kind
-        ≡ settle (state (now (table .entry)) (now (memory .entry))) (withPage r λ page.
+        ≡ settle (state (now (table .entry)) (now (memory .entry))) (withNamed r λ page.
         grant (validateAnswer page) (validating (state (now (table .entry)) (now (memory .entry))) (frameOf hpa) page)) ⌝ }
 {
-    let begun = begin::pvalidate(table, memory, caller, gpa, hpa, kind);
-    let named = pages::first(table, begun, hpa);
-    let Page::Good(page) = named else {
+    let begun = begin_validate(table, memory, caller, gpa, hpa, kind);
+    let named = named::first(table, begun, hpa);
+    let Named::Good(page) = named else {
         return named;
     };
-    let met = gates::pvalidate(page, caller, gpa, kind);
+    let met = validate_needs_met(page, caller, gpa, kind);
     if let Gate::Shut(refusal) = met {
-        return Page::Refused(refusal);
+        return Named::Refused(refusal);
     }
     named
 }

@@ -8,7 +8,7 @@ ghost use Rattle.checks.specs.Answer.{gave};
 ghost use Rattle.census.specs.Census.{held, tallied};
 use checks::answer::Answer;
 use checks::answer::Refusal;
-use checks::begin;
+use checks::begin::begin_census;
 use checks::gate::Gate;
 use checks::leaves;
 use entries::entry::Decoded;
@@ -90,7 +90,7 @@ pub fn census(table: &[u64], memory: &[u64], asid: u64) -> Answer
     ensures { λ r. ⌜ gave r (now (table .entry)) (now (memory .entry))
         ≡ census (state (now (table .entry)) (now (memory .entry))) asid ⌝ }
 {
-    let begun = begin::census(table, memory, asid);
+    let begun = begin_census(table, memory, asid);
     if let Gate::Shut(refusal) = begun {
         return Answer::Refused(refusal);
     }

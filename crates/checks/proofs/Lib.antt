@@ -1,2 +1,2 @@
--- What the named frames' entries come to, as the rules say it.
-pub mod PagesLaws
+-- The checks of a call up to its named frames, as the rules say them.
+pub mod NamedLaws

@@ -4,20 +4,20 @@ use Prim.Native.Nat.{ℕ}
 use Rattle.entries.specs.declared.entry.Entry.{Entry}
 use Rattle.rules.specs.Answers.{Verdict, refuse}
 use Rattle.checks.specs.Answer.{number}
-use Rattle.checks.specs.declared.passed.Page.{Page}
-use Rattle.checks.specs.declared.passed.Page.the-variants as page
-use Rattle.checks.specs.declared.passed.Pages.{Pages}
-use Rattle.checks.specs.declared.passed.Pages.the-variants as pages
+use Rattle.checks.specs.declared.passed.Named.{Named}
+use Rattle.checks.specs.declared.passed.Named.the-variants as named
+use Rattle.checks.specs.declared.passed.BothNamed.{BothNamed}
+use Rattle.checks.specs.declared.passed.BothNamed.the-variants as pair
 use Rattle.checks.specs.declared.passed.Place.{Place}
 use Rattle.checks.specs.declared.passed.Place.the-variants as place
 
-unfoldable pub withPage : Page → (Entry → Verdict) → Verdict
-withPage (page.Good one) rest = rest one
-withPage (page.Refused r) rest = refuse (number r)
+unfoldable pub withNamed : Named → (Entry → Verdict) → Verdict
+withNamed (named.Good one) rest = rest one
+withNamed (named.Refused r) rest = refuse (number r)
 
-unfoldable pub withPages : Pages → (Entry → Entry → Verdict) → Verdict
-withPages (pages.Good one two) rest = rest one two
-withPages (pages.Refused r) rest = refuse (number r)
+unfoldable pub withBothNamed : BothNamed → (Entry → Entry → Verdict) → Verdict
+withBothNamed (pair.Good one two) rest = rest one two
+withBothNamed (pair.Refused r) rest = refuse (number r)
 
 unfoldable pub withPlace : Place → (Entry → ℕ → Verdict) → Verdict
 withPlace (place.Good one gpa) rest = rest one gpa

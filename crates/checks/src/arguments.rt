@@ -18,7 +18,7 @@ pub fn is_host(caller: u64) -> bool
 }
 
 // Of RMPUPDATE: a page of a guest has an owner, any other page has neither owner nor address.
-pub fn update(caller: u64, hpa: u64, gpa: u64, asid: u64, kind: u64) -> bool
+pub fn update_arguments(caller: u64, hpa: u64, gpa: u64, asid: u64, kind: u64) -> bool
     ensures { λ r. ⌜ r ≡ updateArguments caller hpa gpa asid kind ⌝ }
 {
     is_party(caller)
@@ -31,35 +31,35 @@ pub fn update(caller: u64, hpa: u64, gpa: u64, asid: u64, kind: u64) -> bool
 }
 
 // Of PVALIDATE.
-pub fn validate(caller: u64, gpa: u64, hpa: u64, kind: u64) -> bool
+pub fn validate_arguments(caller: u64, gpa: u64, hpa: u64, kind: u64) -> bool
     ensures { λ r. ⌜ r ≡ validateArguments caller gpa hpa kind ⌝ }
 {
     is_party(caller) & is_address(gpa) & is_address(hpa) & is_owned(kind)
 }
 
 // Of PFIX and PMERGE.
-pub fn two_frames(caller: u64, hpa1: u64, hpa2: u64) -> bool
+pub fn two_frame_arguments(caller: u64, hpa1: u64, hpa2: u64) -> bool
     ensures { λ r. ⌜ r ≡ twoFrameArguments caller hpa1 hpa2 ⌝ }
 {
     is_party(caller) & is_address(hpa1) & is_address(hpa2)
 }
 
 // Of PUNMERGE.
-pub fn unmerge(caller: u64, hpa1: u64, hpa2: u64, asid: u64) -> bool
+pub fn unmerge_arguments(caller: u64, hpa1: u64, hpa2: u64, asid: u64) -> bool
     ensures { λ r. ⌜ r ≡ unmergeArguments caller hpa1 hpa2 asid ⌝ }
 {
-    two_frames(caller, hpa1, hpa2) & is_guest(asid)
+    two_frame_arguments(caller, hpa1, hpa2) & is_guest(asid)
 }
 
 // Of PUNFIX.
-pub fn one_frame(caller: u64, hpa: u64) -> bool
+pub fn one_frame_arguments(caller: u64, hpa: u64) -> bool
     ensures { λ r. ⌜ r ≡ oneFrameArguments caller hpa ⌝ }
 {
     is_party(caller) & is_address(hpa)
 }
 
 // Of READ and WRITE.
-pub fn access(caller: u64, gpa: u64, hpa: u64, gtype: u64, ntype: u64, index: u64) -> bool
+pub fn access_arguments(caller: u64, gpa: u64, hpa: u64, gtype: u64, ntype: u64, index: u64) -> bool
     ensures { λ r. ⌜ r ≡ accessArguments caller gpa hpa gtype ntype index ⌝ }
 {
     is_party(caller)

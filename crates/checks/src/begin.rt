@@ -12,9 +12,15 @@ ghost use Rattle.rules.specs.Refusals.{GEOMETRY, ARGUMENT};
 ghost use Rattle.rules.specs.State.{state, sized, covers, M};
 ghost use Rattle.checks.specs.Gate.{past};
 use crate::answer::Refusal;
-use crate::arguments;
+use crate::arguments::access_arguments;
+use crate::arguments::is_host;
+use crate::arguments::may_access;
+use crate::arguments::one_frame_arguments;
+use crate::arguments::two_frame_arguments;
+use crate::arguments::unmerge_arguments;
+use crate::arguments::update_arguments;
+use crate::arguments::validate_arguments;
 use crate::gate::Gate;
-use crate::gate::go_on;
 use entries::entry::frame_of;
 use entries::entry::is_guest;
 use frames::frame;
@@ -45,13 +51,14 @@ fn begin(table: &[u64], memory: &[u64], arguments: bool, party: bool, inside: bo
     ensures { λ g. ⌜ ((v : Verdict) → past g v
         ≡ begins (state (now (table .entry)) (now (memory .entry))) arguments party inside v) ⌝ }
 {
-    let framed = go_on(inside, Refusal::Outside, Gate::Open);
-    let called = go_on(party, Refusal::Caller, framed);
-    let argued = go_on(arguments, Refusal::Argument, called);
-    go_on(sizes_hold(table, memory), Refusal::Geometry, argued)
+    Gate::Open
+        .and_then(sizes_hold(table, memory), Refusal::Geometry)
+        .and_then(arguments, Refusal::Argument)
+        .and_then(party, Refusal::Caller)
+        .and_then(inside, Refusal::Outside)
 }
 
-pub fn rmpupdate(
+pub fn begin_update(
     table: &[u64],
     memory: &[u64],
     caller: u64,
@@ -65,32 +72,39 @@ pub fn rmpupdate(
         (updateArguments caller hpa gpa asid kind) (isHost caller)
         (covers (state (now (table .entry)) (now (memory .entry))) hpa) v) ⌝ }
 {
-    let given = arguments::update(caller, hpa, gpa, asid, kind);
-    let party = arguments::is_host(caller);
+    let given = update_arguments(caller, hpa, gpa, asid, kind);
+    let party = is_host(caller);
     begin(table, memory, given, party, covers(table, hpa))
 }
 
-pub fn pvalidate(table: &[u64], memory: &[u64], caller: u64, gpa: u64, hpa: u64, kind: u64) -> Gate
+pub fn begin_validate(
+    table: &[u64],
+    memory: &[u64],
+    caller: u64,
+    gpa: u64,
+    hpa: u64,
+    kind: u64,
+) -> Gate
     ensures { λ g. ⌜ ((v : Verdict) → past g v
         ≡ begins (state (now (table .entry)) (now (memory .entry)))
         (validateArguments caller gpa hpa kind) (not (isHost caller))
         (covers (state (now (table .entry)) (now (memory .entry))) hpa) v) ⌝ }
 {
-    let given = arguments::validate(caller, gpa, hpa, kind);
-    let party = !arguments::is_host(caller);
+    let given = validate_arguments(caller, gpa, hpa, kind);
+    let party = !is_host(caller);
     begin(table, memory, given, party, covers(table, hpa))
 }
 
 // PFIX and PMERGE.
-pub fn two_frames(table: &[u64], memory: &[u64], caller: u64, hpa1: u64, hpa2: u64) -> Gate
+pub fn begin_two_frames(table: &[u64], memory: &[u64], caller: u64, hpa1: u64, hpa2: u64) -> Gate
     ensures { λ g. ⌜ ((v : Verdict) → past g v
         ≡ begins (state (now (table .entry)) (now (memory .entry)))
         (twoFrameArguments caller hpa1 hpa2) (isHost caller)
         (covers (state (now (table .entry)) (now (memory .entry))) hpa1
         and covers (state (now (table .entry)) (now (memory .entry))) hpa2) v) ⌝ }
 {
-    let given = arguments::two_frames(caller, hpa1, hpa2);
-    let party = arguments::is_host(caller);
+    let given = two_frame_arguments(caller, hpa1, hpa2);
+    let party = is_host(caller);
     begin(
         table,
         memory,
@@ -100,15 +114,22 @@ pub fn two_frames(table: &[u64], memory: &[u64], caller: u64, hpa1: u64, hpa2: u
     )
 }
 
-pub fn punmerge(table: &[u64], memory: &[u64], caller: u64, hpa1: u64, hpa2: u64, asid: u64) -> Gate
+pub fn begin_unmerge(
+    table: &[u64],
+    memory: &[u64],
+    caller: u64,
+    hpa1: u64,
+    hpa2: u64,
+    asid: u64,
+) -> Gate
     ensures { λ g. ⌜ ((v : Verdict) → past g v
         ≡ begins (state (now (table .entry)) (now (memory .entry)))
         (unmergeArguments caller hpa1 hpa2 asid) (isHost caller)
         (covers (state (now (table .entry)) (now (memory .entry))) hpa1
         and covers (state (now (table .entry)) (now (memory .entry))) hpa2) v) ⌝ }
 {
-    let given = arguments::unmerge(caller, hpa1, hpa2, asid);
-    let party = arguments::is_host(caller);
+    let given = unmerge_arguments(caller, hpa1, hpa2, asid);
+    let party = is_host(caller);
     begin(
         table,
         memory,
@@ -118,19 +139,19 @@ pub fn punmerge(table: &[u64], memory: &[u64], caller: u64, hpa1: u64, hpa2: u64
     )
 }
 
-pub fn punfix(table: &[u64], memory: &[u64], caller: u64, hpa: u64) -> Gate
+pub fn begin_unfix(table: &[u64], memory: &[u64], caller: u64, hpa: u64) -> Gate
     ensures { λ g. ⌜ ((v : Verdict) → past g v
         ≡ begins (state (now (table .entry)) (now (memory .entry)))
         (oneFrameArguments caller hpa) (isHost caller)
         (covers (state (now (table .entry)) (now (memory .entry))) hpa) v) ⌝ }
 {
-    let given = arguments::one_frame(caller, hpa);
-    let party = arguments::is_host(caller);
+    let given = one_frame_arguments(caller, hpa);
+    let party = is_host(caller);
     begin(table, memory, given, party, covers(table, hpa))
 }
 
 // READ and WRITE, which may name any frame of memory.
-pub fn access(
+pub fn begin_access(
     table: &[u64],
     memory: &[u64],
     caller: u64,
@@ -145,18 +166,19 @@ pub fn access(
         (accessArguments caller gpa hpa gtype ntype index) (mayAccess caller gtype ntype)
         (ltb (frameOf hpa) (M (state (now (table .entry)) (now (memory .entry))))) v) ⌝ }
 {
-    let given = arguments::access(caller, gpa, hpa, gtype, ntype, index);
-    let party = arguments::may_access(caller, gtype, ntype);
+    let given = access_arguments(caller, gpa, hpa, gtype, ntype, index);
+    let party = may_access(caller, gtype, ntype);
     let inside = frame_of(hpa) < frame::count(memory);
     begin(table, memory, given, party, inside)
 }
 
 // CENSUS has no caller and names no frame.
-pub fn census(table: &[u64], memory: &[u64], asid: u64) -> Gate
+pub fn begin_census(table: &[u64], memory: &[u64], asid: u64) -> Gate
     ensures { λ g. ⌜ ((v : Verdict) → past g v
         ≡ unless (sized (state (now (table .entry)) (now (memory .entry)))) GEOMETRY
         (unless (isGuest asid) ARGUMENT v)) ⌝ }
 {
-    let argued = go_on(is_guest(asid), Refusal::Argument, Gate::Open);
-    go_on(sizes_hold(table, memory), Refusal::Geometry, argued)
+    Gate::Open
+        .and_then(sizes_hold(table, memory), Refusal::Geometry)
+        .and_then(is_guest(asid), Refusal::Argument)
 }

@@ -10,9 +10,18 @@ pub enum Gate {
     Shut(Refusal),
 }
 
-// One check more, before those of `rest`.
-pub fn go_on(passes: bool, refusal: Refusal, rest: Gate) -> Gate
-    ensures { λ g. ⌜ ((v : Verdict) → past g v ≡ unless passes (number refusal) (past rest v)) ⌝ }
-{
-    if passes { rest } else { Gate::Shut(refusal) }
+impl Gate {
+    // One check more, after those of this gate.
+    pub fn and_then(self, passes: bool, refusal: Refusal) -> Gate
+        ensures { λ g. ⌜ ((v : Verdict) → past g v ≡ past self (unless passes (number refusal) v)) ⌝ }
+    {
+        if let Gate::Shut(first) = self {
+            return Gate::Shut(first);
+        }
+        if passes {
+            Gate::Open
+        } else {
+            Gate::Shut(refusal)
+        }
+    }
 }

@@ -1,11 +1,15 @@
 // The leaf of a fixed page, and the word consulted in it.
 ghost use mathlib.Core.Path.{_≡_};
+ghost use Prim.Native.Nat.{ℕ};
+ghost use Rattle.entries.specs.declared.entry.Entry.{Entry};
 ghost use Rattle.rules.specs.Answers.{Verdict};
-ghost use Rattle.rules.specs.Leaves.{isLeaf, consulted, vacant};
+ghost use Rattle.rules.specs.Leaves.{isLeaf, consulted, vacant, placed};
 ghost use Rattle.rules.specs.State.{state};
 ghost use Rattle.checks.specs.Gate.{past};
+ghost use Rattle.checks.specs.Passed.{withPlace};
 use crate::answer::Refusal;
 use crate::gate::Gate;
+use crate::passed::Place;
 use entries::entry::Decoded;
 use entries::entry::Entry;
 use entries::entry::LEAF;
@@ -44,5 +48,16 @@ pub fn vacant(word: LeafWord) -> Gate
         LeafWord::Misshapen => Gate::Shut(Refusal::BrokenLeaf),
         LeafWord::Present(_) => Gate::Shut(Refusal::PlaceTaken),
         LeafWord::Absent => Gate::Open,
+    }
+}
+
+// 12, then 13: PUNMERGE and PUNFIX go on only with a word that is present, and so with the guest's address in the fixed page.
+pub fn placed(page: Entry, word: LeafWord) -> Place
+    ensures { λ r. ⌜ ((rest : Entry → ℕ → Verdict) → withPlace r rest ≡ placed word (rest page)) ⌝ }
+{
+    match word {
+        LeafWord::Misshapen => Place::Refused(Refusal::BrokenLeaf),
+        LeafWord::Absent => Place::Refused(Refusal::NoPlace),
+        LeafWord::Present(gpa) => Place::Good(page, gpa),
     }
 }

@@ -5,5 +5,5 @@ pub mod arguments;
 pub mod begin;
 pub mod gate;
 pub mod leaves;
-pub mod pages;
+pub mod named;
 pub mod passed;

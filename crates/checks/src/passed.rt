@@ -2,19 +2,19 @@
 use crate::answer::Refusal;
 use entries::entry::Entry;
 
-// One page.
-pub enum Page {
+// The entry of the one frame that a call names.
+pub enum Named {
     Good(Entry),
     Refused(Refusal),
 }
 
-// Two pages.
-pub enum Pages {
+// The entries of the two frames that a call names.
+pub enum BothNamed {
     Good(Entry, Entry),
     Refused(Refusal),
 }
 
-// A fixed page, and the address of a guest's place in it.
+// The entry of a fixed page, and the address of a guest's place in it.
 pub enum Place {
     Good(Entry, u64),
     Refused(Refusal),

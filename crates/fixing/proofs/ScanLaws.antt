@@ -102,4 +102,5 @@ module _ (t m : List ℕ) (frame owner : ℕ) where
 
   pub shared-counted : not (eqb (oddIn m frame 512) (wordIn m frame owner % 2)) ≡ stillShared (state t m) frame owner 512
   shared-counted =
-      ⊎-elim (λ l. told _ _ _ (past-owner 512 l)) (λ l. rw (word-past m frame owner l) (told 0 _ _ (before-owner 512 l))) (lt-or-le owner 512)
+      ⊎-elim (λ l. told _ _ _ (past-owner 512 l)) (λ l. rw (word-past m frame owner l) (told 0 _ _ (before-owner 512 l)))
+      (lt-or-le owner 512)

@@ -1,42 +1,42 @@
--- PUNMERGE's entry 2 is entry 1 moved: an open gate says that the page is fixed, and a fixed page in the table is MERGEABLE and
--- VALIDATED.
+-- PUNMERGE's entry 2 is entry 1 moved: a fixed page in the table is MERGEABLE and VALIDATED, and where the page is not fixed nothing is done.
 -- Assumes nothing.
-use mathlib.Core.Path.{_≡_, refl}
-use mathlib.Core.Bool.{Bool, true, false}
-use mathlib.Core.List.{List, []}
+use mathlib.Core.Path.{_≡_, refl, sym, _∙_}
+use mathlib.Core.Bool.{true}
+use mathlib.Core.Logic.{⊎-elim}
 use Prim.Native.Nat.{ℕ}
-use native.Mathlib.Omega.{arith}
-use Rattle.words.specs.Choice.{pick}
-use Rattle.entries.specs.Entry.{MERGEABLE, entry, toMoved}
+use Rattle.words.proofs.ChoiceLaws.{true-or-false, pick-false}
 use Rattle.entries.specs.declared.entry.Entry.{Entry}
 use Rattle.entries.specs.declared.entry.Decoded.the-variants.{Good}
-use Rattle.entries.proofs.Tells.{tells, moved-is}
-use Rattle.rmp.specs.Table.{entryIn}
-use Rattle.rmp.proofs.TableLaws.{entry-good}
-use Rattle.rules.specs.Answers.{Told, done, Verdict, refuse, grant, unless}
-use Rattle.rules.specs.Refusals.{TYPE, NOT-FIXED}
-use Rattle.rules.specs.State.{State, emptyTable}
-use Rattle.checks.specs.Gate.{past}
-use Rattle.checks.specs.declared.gate.Gate.{Gate}
-use Rattle.checks.specs.declared.gate.Gate.the-variants.{Open}
+use Rattle.entries.specs.declared.leaf.LeafWord.{LeafWord}
+use Rattle.entries.specs.declared.leaf.LeafWord.the-variants.{Absent, Present, Misshapen}
+use Rattle.entries.proofs.Tells.{moved-is}
+use Rattle.rules.specs.Answers.{done, grant, unless}
+use Rattle.rules.specs.Leaves.{placed}
+use Rattle.rules.specs.Merging.{unmerging}
+use Rattle.rules.specs.Refusals.{NOT-FIXED}
+use Rattle.rules.specs.State.{State, entryAt}
+use Rattle.rules.proofs.StateLaws.{entry-tells}
+use Rattle.merging.specs.Moved.{moving}
 
--- what is granted is not refused
-refuses : {t : Bool} {a : Told} {u : State} (n : ℕ) → grant a u ≡ refuse n → t ≡ true
-refuses n e = let z : _≡_ {A = ℕ} 0 1 = cc in absurd (omega arith)
+module _ (s : State) (frame1 : ℕ) (one : Entry) (frame2 asid : ℕ) (here : entryAt s frame1 ≡ Good one) where
+  moving-is : one .fixed ≡ true → (gpa : ℕ) → unmerging s frame1 one frame2 asid gpa ≡ moving s frame1 one frame2 asid gpa
+  unfolding unmerging moving
+  moving-is fixed gpa = rw (moved-is _ one asid gpa (entry-tells s frame1 one here) fixed)
 
--- a chain of two checks that lets everything through has passed the second
-second-passed : (s t : Bool) (m n : ℕ) → ((v : Verdict) → v ≡ unless s m (unless t n v)) → t ≡ true
-unfolding unless pick
-second-passed s true m n through = refl
-second-passed true false m n through = refuses n (through (grant done (emptyTable 0 [])))
-second-passed false false m n through = refuses m (through (grant done (emptyTable 0 [])))
+  at-place :
+      one .fixed ≡ true → (word : LeafWord)
+      → placed word (λ gpa. grant done (unmerging s frame1 one frame2 asid gpa))
+      ≡ placed word (λ gpa. grant done (moving s frame1 one frame2 asid gpa))
+  unfolding placed
+  at-place fixed Misshapen = refl
+  at-place fixed Absent = refl
+  at-place fixed (Present gpa) = rw (moving-is fixed gpa)
 
--- `gate` is the gate that the call passed
-pub moved :
-    (t : List ℕ) (frame : ℕ) (one : Entry) (kinds : Bool) (gate : Gate) → entryIn t frame ≡ Good one
-    → ((v : Verdict) → past gate v ≡ unless kinds TYPE (unless (one .fixed) NOT-FIXED v)) → gate ≡ Open
-    → (asid gpa : ℕ) → toMoved one asid gpa ≡ entry asid MERGEABLE true false gpa
-unfolding past
-moved t frame one kinds gate good gated is-open asid gpa =
-    moved-is _ one asid gpa (tells _ one (entry-good t frame one good .1))
-    (second-passed kinds (one .fixed) TYPE NOT-FIXED (rw is-open at gated))
+  pub moves :
+      (word : LeafWord)
+      → unless (one .fixed) NOT-FIXED (placed word λ gpa. grant done (unmerging s frame1 one frame2 asid gpa))
+      ≡ unless (one .fixed) NOT-FIXED (placed word λ gpa. grant done (moving s frame1 one frame2 asid gpa))
+  unfolding unless
+  moves word =
+      ⊎-elim (λ fixed. rw (at-place fixed word)) (λ unfixed. pick-false _ _ unfixed ∙ sym (pick-false _ _ unfixed))
+      (true-or-false (one .fixed))

@@ -1,25 +1,29 @@
 // PUNMERGE: a guest moves out of a fixed page.
 ghost use mathlib.Core.Path.{_≡_};
-ghost use Rattle.entries.specs.Entry.{frameOf};
-ghost use Rattle.rules.specs.Answers.{done, grant, settle};
+ghost use Prim.Native.Nat.{ℕ};
+ghost use lib.Dec.{eqb};
+ghost use Rattle.words.specs.Choice.{_and_};
+ghost use Rattle.entries.specs.Entry.{SHARED, MERGEABLE, frameOf};
+ghost use Rattle.entries.specs.declared.entry.Entry.{Entry};
+ghost use Rattle.rules.specs.Answers.{done, Verdict, grant, settle, unless};
+ghost use Rattle.rules.specs.Leaves.{consulted, placed};
 ghost use Rattle.rules.specs.Merging.{punmerge};
+ghost use Rattle.rules.specs.Refusals.{TYPE, NOT-FIXED};
 ghost use Rattle.rules.specs.State.{state};
 ghost use Rattle.checks.specs.Answer.{gave};
 ghost use Rattle.checks.specs.Passed.{withPlace};
 ghost use Rattle.merging.specs.Moved.{moving};
 use checks::answer::Answer;
-use checks::answer::Refusal;
-use checks::begin;
+use checks::begin::begin_unmerge;
 use checks::gate::Gate;
 use checks::leaves;
-use checks::pages;
-use checks::passed::Pages;
+use checks::named;
+use checks::passed::BothNamed;
 use checks::passed::Place;
 use entries::entry::Entry;
 use entries::entry::frame_of;
-use entries::leaf::LeafWord;
 use frames::frame;
-use needs::gates;
+use needs::gates::unmerge_needs_met;
 use rmp::table;
 
 // The guest `asid` moves out of the fixed page at `hpa1` into the SHARED frame at `hpa2`.
@@ -63,22 +67,26 @@ fn check_unmerge(
         ≡ settle (state (now (table .entry)) (now (memory .entry))) (withPlace r λ one gpa.
         grant done (moving (state (now (table .entry)) (now (memory .entry))) (frameOf hpa1) one (frameOf hpa2) asid gpa)) ⌝ }
 {
-    let begun = begin::punmerge(table, memory, caller, hpa1, hpa2, asid);
-    let first = pages::first(table, begun, hpa1);
-    match pages::second(table, first, hpa2) {
-        Pages::Refused(refusal) => Place::Refused(refusal),
-        Pages::Good(one, two) => {
-            let met = gates::punmerge(one, two);
-            if let Gate::Shut(refusal) = met {
-                return Place::Refused(refusal);
-            }
-            match leaves::consulted(table, memory, one, asid) {
-                LeafWord::Misshapen => Place::Refused(Refusal::BrokenLeaf),
-                LeafWord::Absent => Place::Refused(Refusal::NoPlace),
-                LeafWord::Present(gpa) => Place::Good(one, gpa),
-            }
-        }
+    let begun = begin_unmerge(table, memory, caller, hpa1, hpa2, asid);
+    let first = named::first(table, begun, hpa1);
+    match named::second(table, first, hpa2) {
+        BothNamed::Refused(refusal) => Place::Refused(refusal),
+        BothNamed::Good(one, two) => guest_place(table, memory, one, two, asid),
     }
+}
+
+// The guest's place in the page of entry 1: 6, 11, 12, 13.
+fn guest_place(table: &[u64], memory: &[u64], one: Entry, two: Entry, asid: u64) -> Place
+    ensures { λ r. ⌜ ((rest : Entry → ℕ → Verdict) → withPlace r rest
+        ≡ unless (eqb (one .kind) MERGEABLE and eqb (two .kind) SHARED) TYPE
+        (unless (one .fixed) NOT-FIXED
+        (placed (consulted (state (now (table .entry)) (now (memory .entry))) one asid) (rest one)))) ⌝ }
+{
+    let met = unmerge_needs_met(one, two);
+    if let Gate::Shut(refusal) = met {
+        return Place::Refused(refusal);
+    }
+    leaves::placed(one, leaves::consulted(table, memory, one, asid))
 }
 
 // Entry 2 is entry 1, moved.

@@ -12,9 +12,9 @@ pub use assignment::rmpupdate;
 pub use census::census;
 pub use checks::answer::Answer;
 pub use checks::answer::Refusal;
-pub use merging::pfix;
+pub use fixing::pfix;
+pub use fixing::punfix;
 pub use merging::pmerge;
-pub use merging::punfix;
 pub use merging::punmerge;
 
 // A call as a value, with its arguments in the order of the function that makes it.

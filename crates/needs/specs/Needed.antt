@@ -20,11 +20,11 @@ flagsNeeded need page rest =
     unless (flagMet (need .2) (page .fixed)) (fixedRefusal (need .2))
     (unless (flagMet (need .1) (page .validated)) NOT-VALIDATED rest)
 
-unfoldable pub pageNeeded : Row → Entry → Verdict → Verdict
-pageNeeded row page rest = unless (kindMet (row .0 .0) (page .kind) 0) TYPE (flagsNeeded (row .0) page rest)
+unfoldable pub oneFrameNeeded : Row → Entry → Verdict → Verdict
+oneFrameNeeded row page rest = unless (kindMet (row .0 .0) (page .kind) 0) TYPE (flagsNeeded (row .0) page rest)
 
-unfoldable pub pagesNeeded : Row → Entry → Entry → Verdict → Verdict
-pagesNeeded row one two rest =
+unfoldable pub twoFramesNeeded : Row → Entry → Entry → Verdict → Verdict
+twoFramesNeeded row one two rest =
     unless (kindMet (row .0 .0) (one .kind) 0 and kindMet (row .1 .0) (two .kind) 0) TYPE
     (flagsNeeded (row .0) one (flagsNeeded (row .1) two rest))
 

@@ -9,7 +9,7 @@ ghost use Rattle.rules.specs.Answers.{Verdict, unless, when};
 ghost use Rattle.rules.specs.Refusals.{TYPE, OWNER, ADDRESS, NOT-VALIDATED, FIXED, NOT-FIXED};
 ghost use Rattle.checks.specs.Answer.{number};
 ghost use Rattle.checks.specs.Gate.{past};
-ghost use Rattle.needs.specs.Needed.{fixedRefusal, flagsNeeded, pageNeeded, pagesNeeded, accessNeed};
+ghost use Rattle.needs.specs.Needed.{fixedRefusal, flagsNeeded, oneFrameNeeded, twoFramesNeeded, accessNeed};
 use crate::table;
 use crate::table::Need;
 use crate::table::Row;
@@ -17,18 +17,17 @@ use crate::table::SET;
 use crate::table::needs;
 use checks::answer::Refusal;
 use checks::gate::Gate;
-use checks::gate::go_on;
 use entries::entry::Entry;
 
 // RMPUPDATE: 6, 10.
-pub fn rmpupdate(old: Entry) -> Gate
+pub fn update_needs_met(old: Entry) -> Gate
     ensures { λ g. ⌜ ((v : Verdict) → past g v ≡ when (eqb (old .kind) LEAF) TYPE (when (old .fixed) FIXED v)) ⌝ }
 {
-    one_frame(needs(table::RMPUPDATE), old)
+    one_frame_met(needs(table::RMPUPDATE), old)
 }
 
 // PVALIDATE: 6, 7, 10, 8.
-pub fn pvalidate(page: Entry, caller: u64, gpa: u64, kind: u64) -> Gate
+pub fn validate_needs_met(page: Entry, caller: u64, gpa: u64, kind: u64) -> Gate
     ensures { λ g. ⌜ ((v : Verdict) → past g v
         ≡ unless (eqb (page .kind) kind) TYPE
         (unless (eqb (page .asid) caller) OWNER
@@ -37,83 +36,78 @@ pub fn pvalidate(page: Entry, caller: u64, gpa: u64, kind: u64) -> Gate
 {
     let row = needs(table::PVALIDATE);
     let need = row.0;
-    let there = go_on(page.address == gpa, Refusal::Address, Gate::Open);
-    let flagged = flags(need, page, there);
-    let owned = go_on(page.asid == caller, Refusal::Owner, flagged);
-    go_on(need.kind_met(page.kind, kind), Refusal::PageType, owned)
+    let typed = Gate::Open.and_then(need.kind_met(page.kind, kind), Refusal::PageType);
+    let owned = typed.and_then(page.asid == caller, Refusal::Owner);
+    flags_met(owned, need, page).and_then(page.address == gpa, Refusal::Address)
 }
 
 // PFIX: 6 of both, 10, 9.
-pub fn pfix(old: Entry, leaf: Entry) -> Gate
+pub fn fix_needs_met(old: Entry, leaf: Entry) -> Gate
     ensures { λ g. ⌜ ((v : Verdict) → past g v
         ≡ unless (eqb (old .kind) MERGEABLE and eqb (leaf .kind) LEAF) TYPE
         (when (old .fixed) FIXED
         (unless (old .validated) NOT-VALIDATED v))) ⌝ }
 {
-    two_frames(needs(table::PFIX), old, leaf)
+    two_frames_met(needs(table::PFIX), old, leaf)
 }
 
 // PMERGE: 6 of both, 11 of the first, 10 and 9 of the second.
-pub fn pmerge(one: Entry, two: Entry) -> Gate
+pub fn merge_needs_met(one: Entry, two: Entry) -> Gate
     ensures { λ g. ⌜ ((v : Verdict) → past g v
         ≡ unless (eqb (one .kind) MERGEABLE and eqb (two .kind) MERGEABLE) TYPE
         (unless (one .fixed) NOT-FIXED
         (when (two .fixed) FIXED
         (unless (two .validated) NOT-VALIDATED v)))) ⌝ }
 {
-    two_frames(needs(table::PMERGE), one, two)
+    two_frames_met(needs(table::PMERGE), one, two)
 }
 
 // PUNMERGE: 6 of both, 11.
-pub fn punmerge(one: Entry, two: Entry) -> Gate
+pub fn unmerge_needs_met(one: Entry, two: Entry) -> Gate
     ensures { λ g. ⌜ ((v : Verdict) → past g v
         ≡ unless (eqb (one .kind) MERGEABLE and eqb (two .kind) SHARED) TYPE (unless (one .fixed) NOT-FIXED v)) ⌝ }
 {
-    two_frames(needs(table::PUNMERGE), one, two)
+    two_frames_met(needs(table::PUNMERGE), one, two)
 }
 
 // PUNFIX: 6, 11.
-pub fn punfix(old: Entry) -> Gate
+pub fn unfix_needs_met(old: Entry) -> Gate
     ensures { λ g. ⌜ ((v : Verdict) → past g v
         ≡ unless (eqb (old .kind) MERGEABLE) TYPE (unless (old .fixed) NOT-FIXED v)) ⌝ }
 {
-    one_frame(needs(table::PUNFIX), old)
+    one_frame_met(needs(table::PUNFIX), old)
 }
 
 // What a row needs of the one frame that its instruction names: 6, then the flags.
-fn one_frame(row: Row, page: Entry) -> Gate
-    ensures { λ g. ⌜ ((v : Verdict) → past g v ≡ pageNeeded row page v) ⌝ }
+fn one_frame_met(row: Row, page: Entry) -> Gate
+    ensures { λ g. ⌜ ((v : Verdict) → past g v ≡ oneFrameNeeded row page v) ⌝ }
 {
     let need = row.0;
-    let flagged = flags(need, page, Gate::Open);
-    go_on(need.kind_met(page.kind, 0), Refusal::PageType, flagged)
+    let typed = Gate::Open.and_then(need.kind_met(page.kind, 0), Refusal::PageType);
+    flags_met(typed, need, page)
 }
 
 // What a row needs of two frames: 6 of both, then the flags of the first and those of the second.
-fn two_frames(row: Row, one: Entry, two: Entry) -> Gate
-    ensures { λ g. ⌜ ((v : Verdict) → past g v ≡ pagesNeeded row one two v) ⌝ }
+fn two_frames_met(row: Row, one: Entry, two: Entry) -> Gate
+    ensures { λ g. ⌜ ((v : Verdict) → past g v ≡ twoFramesNeeded row one two v) ⌝ }
 {
     let first = row.0;
     let second = row.1;
-    let rest = flags(second, two, Gate::Open);
-    let flagged = flags(first, one, rest);
-    go_on(
+    let typed = Gate::Open.and_then(
         first.kind_met(one.kind, 0) & second.kind_met(two.kind, 0),
         Refusal::PageType,
-        flagged,
-    )
+    );
+    let flagged = flags_met(typed, first, one);
+    flags_met(flagged, second, two)
 }
 
-// The flags of a page: FIXED, then VALIDATED, then `rest`.
-fn flags(need: Need, page: Entry, rest: Gate) -> Gate
-    ensures { λ g. ⌜ ((v : Verdict) → past g v ≡ flagsNeeded need page (past rest v)) ⌝ }
+// After the checks of `before`, the flags of a page: FIXED, then VALIDATED.
+fn flags_met(before: Gate, need: Need, page: Entry) -> Gate
+    ensures { λ g. ⌜ ((v : Verdict) → past g v ≡ past before (flagsNeeded need page v)) ⌝ }
 {
-    let opened = go_on(
-        need.validated_met(page.validated),
-        Refusal::NotValidated,
-        rest,
-    );
-    go_on(need.fixed_met(page.fixed), fixed_refusal(need.2), opened)
+    before
+        .and_then(need.fixed_met(page.fixed), fixed_refusal(need.2))
+        .and_then(need.validated_met(page.validated), Refusal::NotValidated)
 }
 
 // 11 where FIXED must be set, else 10.
@@ -139,38 +133,27 @@ fn access_need(writes: bool) -> Need
 }
 
 // READ and WRITE: 6, of a page of the type `kind`.
-pub fn access_type(writes: bool, kind: u64, gtype: u64) -> Gate
+pub fn access_type_met(writes: bool, kind: u64, gtype: u64) -> Gate
     ensures { λ g. ⌜ ((v : Verdict) → past g v ≡ unless (eqb kind gtype) TYPE v) ⌝ }
 {
-    go_on(
-        access_need(writes).kind_met(kind, gtype),
-        Refusal::PageType,
-        Gate::Open,
-    )
+    Gate::Open.and_then(access_need(writes).kind_met(kind, gtype), Refusal::PageType)
 }
 
 // READ and WRITE of a fixed page: 10.
-pub fn fixed_access(writes: bool) -> Gate
+pub fn fixed_access_met(writes: bool) -> Gate
     ensures { λ g. ⌜ ((v : Verdict) → past g v ≡ when writes FIXED v) ⌝ }
 {
-    go_on(
-        access_need(writes).fixed_met(true),
-        Refusal::Fixed,
-        Gate::Open,
-    )
+    Gate::Open.and_then(access_need(writes).fixed_met(true), Refusal::Fixed)
 }
 
 // READ and WRITE of a page that is not fixed: 7, 8, 9. The row's FIXED is held against it too: one that needs it set breaks this promise.
-pub fn unfixed_access(writes: bool, page: Entry, caller: u64, gpa: u64) -> Gate
+pub fn unfixed_access_met(writes: bool, page: Entry, caller: u64, gpa: u64) -> Gate
     ensures { λ g. ⌜ ((v : Verdict) → past g v ≡ unfixedAccess caller gpa page v) ⌝ }
 {
     let need = access_need(writes);
-    let opened = go_on(
-        need.validated_met(page.validated),
-        Refusal::NotValidated,
-        Gate::Open,
-    );
-    let there = go_on(page.address == gpa, Refusal::Address, opened);
-    let owned = go_on(page.asid == caller, Refusal::Owner, there);
-    go_on(need.fixed_met(false), Refusal::NotFixed, owned)
+    Gate::Open
+        .and_then(need.fixed_met(false), Refusal::NotFixed)
+        .and_then(page.asid == caller, Refusal::Owner)
+        .and_then(page.address == gpa, Refusal::Address)
+        .and_then(need.validated_met(page.validated), Refusal::NotValidated)
 }

@@ -31,12 +31,12 @@ returns-3 : tie.Need-returns-3
 unfolding reached pageAccess past
 returns-3 c = λ v. rw (c .before .before .before .frame2 .given .1, pick-true _ _ (c .before .if1 .taken), c .fixed .ensures v)
 
-unfixed-access-requires : tie.Need-unfixed-access-requires
-unfixed-access-requires c κs = search needs
+unfixed-access-met-requires : tie.Need-unfixed-access-met-requires
+unfixed-access-met-requires c κs = search needs
 
 returns-4 : tie.Need-returns-4
 unfolding reached pageAccess past
-returns-4 c = λ v. rw (c .before .before .before .frame2 .given .1, pick-false _ _ (c .before .if1 .left), c .unfixed-access .ensures v)
+returns-4 c = λ v. rw (c .before .before .before .frame2 .given .1, pick-false _ _ (c .before .if1 .left), c .unfixed-access-met .ensures v)
 
 pub allowed-spec : {M : Type 1} → statement M
 allowed-spec =
@@ -49,5 +49,5 @@ allowed-spec =
     enum-known-frame-2
     fixed-requires
     returns-3
-    unfixed-access-requires
+    unfixed-access-met-requires
     returns-4)

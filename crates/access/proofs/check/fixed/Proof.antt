@@ -8,15 +8,15 @@ use Rattle.checks.specs.Gate.{past}
 use Rattle.access.proofs.check.fixed.Statement.{statement}
 use Rattle.access.proofs.check.fixed.Tie as tie
 
-fixed-access-requires : tie.Need-fixed-access-requires
-fixed-access-requires c κs = search needs
+fixed-access-met-requires : tie.Need-fixed-access-met-requires
+fixed-access-met-requires c κs = search needs
 
 enum-known-may : tie.Need-enum-known-may
 enum-known-may c = search needs
 
 returns : tie.Need-returns
 unfolding fixedAccess placed past
-returns c = λ v. rw (← c .before .before .before .fixed-access .ensures, c .before .may .given .1)
+returns c = λ v. rw (← c .before .before .before .fixed-access-met .ensures, c .before .may .given .1)
 
 enum-told : tie.Need-enum-told
 enum-told c = search needs
@@ -33,16 +33,16 @@ enum-told-3 c = search needs
 enum-known-word : tie.Need-enum-known-word
 enum-known-word c = search needs
 
-go-on-requires : tie.Need-go-on-requires
-go-on-requires c κs = search needs
+and-then-requires : tie.Need-and-then-requires
+and-then-requires c κs = search needs
 
 returns-2 : tie.Need-returns-2
 unfolding fixedAccess placed past
 returns-2 c =
     let at-consulted = c .before .before in let at-enum-told = at-consulted .before in
-    let at-fixed-access = at-enum-told .before .before in
+    let at-fixed-access-met = at-enum-told .before .before in
     λ v. rw (
-      ← at-fixed-access .fixed-access .ensures,
+      ← at-fixed-access-met .fixed-access-met .ensures,
       at-enum-told .enum-told .given .1,
       ← at-consulted .consulted .ensures,
       c .enum-told2 .given .1,
@@ -52,9 +52,9 @@ returns-3 : tie.Need-returns-3
 unfolding fixedAccess placed past
 returns-3 c =
     let at-consulted = c .before .before in let at-enum-told = at-consulted .before in
-    let at-fixed-access = at-enum-told .before .before in
+    let at-fixed-access-met = at-enum-told .before .before in
     λ v. rw (
-      ← at-fixed-access .fixed-access .ensures,
+      ← at-fixed-access-met .fixed-access-met .ensures,
       at-enum-told .enum-told .given .1,
       ← at-consulted .consulted .ensures,
       c .enum-told3 .given .1,
@@ -64,20 +64,20 @@ returns-4 : tie.Need-returns-4
 unfolding fixedAccess placed past
 returns-4 c =
     let at-word = c .before .before in let at-consulted = at-word .before .before in let at-enum-told = at-consulted .before in
-    let at-fixed-access = at-enum-told .before .before in
+    let at-fixed-access-met = at-enum-told .before .before in
     λ v. rw (
-      ← at-fixed-access .fixed-access .ensures,
+      ← at-fixed-access-met .fixed-access-met .ensures,
       at-enum-told .enum-told .given .1,
       ← at-consulted .consulted .ensures,
       at-word .word .given .1,
-      ← c .go-on .ensures v,
+      ← c .and-then .ensures v,
     )
 
 pub fixed-spec : {M : Type 1} → statement M
 fixed-spec =
     tie.close
     (tie.spec
-    fixed-access-requires
+    fixed-access-met-requires
     enum-known-may
     returns
     enum-told
@@ -85,7 +85,7 @@ fixed-spec =
     enum-told-2
     enum-told-3
     enum-known-word
-    go-on-requires
+    and-then-requires
     returns-2
     returns-3
     returns-4)

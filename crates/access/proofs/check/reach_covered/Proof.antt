@@ -26,26 +26,55 @@ returns : tie.Need-returns
 unfolding reached coveredReached entered entryAt past pick
 returns c = λ m v page. rw (← c .before .before .before .frame-of .ensures, ← c .before .before .read .ensures, c .enum-told .given .1)
 
-access-type-requires : tie.Need-access-type-requires
-access-type-requires c κs = search needs
+access-type-met-requires : tie.Need-access-type-met-requires
+access-type-met-requires c κs = search needs
 
 enum-known-met : tie.Need-enum-known-met
 enum-known-met c = search needs
 
 returns-2 : tie.Need-returns-2
 unfolding reached coveredReached entered entryAt past pick
-returns-2 c = λ m v page. rw (← c .before .before .before .before .before .before .before .before .frame-of .ensures, ← c .before .before .before .before .before .before .before .read .ensures, c .before .before .before .before .before .page .given .1, ← c .before .before .before .access-type .ensures, c .before .met .given .1)
+returns-2 c =
+    let at-met = c .before in let at-type = at-met .before .before in let at-page = at-type .before .before in
+    let at-read = at-page .before .before in
+    λ m v page. rw (
+      ← at-read .before .frame-of .ensures,
+      ← at-read .read .ensures,
+      at-page .page .given .1,
+      ← at-type .access-type-met .ensures,
+      at-met .met .given .1,
+    )
 
 enum-told-2 : tie.Need-enum-told-2
 enum-told-2 c = search needs
 
 returns-3 : tie.Need-returns-3
 unfolding reached coveredReached entered entryAt past pick
-returns-3 c = λ m v page. rw (← c .before .before .before .before .before .before .before .before .frame-of .ensures, ← c .before .before .before .before .before .before .before .read .ensures, c .before .before .before .before .before .page .given .1, ← c .before .before .before .access-type .ensures, c .before .enum-told2 .given .1, c .if1 .taken)
+returns-3 c =
+    let at-open = c .before in let at-type = at-open .before .before in let at-page = at-type .before .before in
+    let at-read = at-page .before .before in
+    λ m v page. rw (
+      ← at-read .before .frame-of .ensures,
+      ← at-read .read .ensures,
+      at-page .page .given .1,
+      ← at-type .access-type-met .ensures,
+      at-open .enum-told2 .given .1,
+      c .if1 .taken,
+    )
 
 returns-4 : tie.Need-returns-4
 unfolding reached coveredReached entered entryAt past pick
-returns-4 c = λ m v page. rw (← c .before .before .before .before .before .before .before .before .frame-of .ensures, ← c .before .before .before .before .before .before .before .read .ensures, c .before .before .before .before .before .page .given .1, ← c .before .before .before .access-type .ensures, c .before .enum-told2 .given .1, c .if1 .left)
+returns-4 c =
+    let at-open = c .before in let at-type = at-open .before .before in let at-page = at-type .before .before in
+    let at-read = at-page .before .before in
+    λ m v page. rw (
+      ← at-read .before .frame-of .ensures,
+      ← at-read .read .ensures,
+      at-page .page .given .1,
+      ← at-type .access-type-met .ensures,
+      at-open .enum-told2 .given .1,
+      c .if1 .left,
+    )
 
 pub reach-covered-spec : {M : Type 1} → statement M
 reach-covered-spec =
@@ -56,7 +85,7 @@ reach-covered-spec =
     enum-known-page
     enum-told
     returns
-    access-type-requires
+    access-type-met-requires
     enum-known-met
     returns-2
     enum-told-2

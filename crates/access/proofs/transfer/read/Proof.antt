@@ -1,9 +1,12 @@
 -- `access::transfer::read` meets its contract: a shut gate is the rule's refusal, and past the open ones the rule is what is done.
 -- Assumes nothing.
+use mathlib.Core.Path.{_≡_}
+use mathlib.Core.Bool.{false}
+use denote.Ref.{now}
 use borrow.Author.Needs.{needs}
-use Rattle.rules.specs.Access.{read}
-use Rattle.rules.specs.Answers.{settle}
-use Rattle.rules.specs.State.{wordAt}
+use Rattle.rules.specs.Access.{access, read}
+use Rattle.rules.specs.Answers.{Verdict, settle}
+use Rattle.rules.specs.State.{state, wordAt}
 use Rattle.checks.specs.Gate.{past}
 use Rattle.access.proofs.AccessLaws.{access-parts, access-checked}
 use Rattle.access.proofs.transfer.read.Statement.{statement}
@@ -31,17 +34,22 @@ allowed-requires c κs = search needs
 enum-known-allowed : tie.Need-enum-known-allowed
 enum-known-allowed c = search needs
 
+-- where the frame was looked at: the access is what the two gates make of it
+checked :
+    (c : tie.After-allowed)
+    → let a = c .before .before .before .before .before .before .before .args in
+    (v : Verdict)
+    → access (state (now (a .table)) (now (a .memory))) false (a .caller) (a .gpa) (a .hpa) (a .gtype) (a .ntype) (a .index) v
+    ≡ past (c .before .before .before .before .begun .result) (past (c .allowed .result) v)
+checked c =
+    let at-reach = c .before in let at-begun = at-reach .before .before .before in
+    access-checked _ _ _ _ _ _ _ _ _ _ _ _ (at-begun .begun .ensures) (at-reach .reach .ensures) (c .allowed .ensures)
+
 returns-2 : tie.Need-returns-2
 unfolding read settle past wordAt
 returns-2 c =
-    let at-allowed = c .before .before .before in let at-reach = at-allowed .before in let at-told = at-reach .before in
-    let at-begun = at-told .before .before in
-    rw (
-      access-checked _ _ _ _ _ _ _ _ _ (at-begun .begun .result) (at-allowed .allowed .result) (at-reach .reach .result)
-          (at-begun .begun .ensures) (at-reach .reach .ensures) (at-allowed .allowed .ensures),
-      at-told .enum-told .given .1,
-      c .before .allowed2 .given .1,
-    )
+    let at-allowed = c .before .before .before in
+    rw (checked at-allowed, at-allowed .before .before .enum-told .given .1, c .before .allowed2 .given .1)
 
 enum-told-2 : tie.Need-enum-told-2
 enum-told-2 c = search needs
@@ -56,11 +64,9 @@ returns-3 : tie.Need-returns-3
 unfolding read settle past wordAt
 returns-3 c =
     let at-frame-of = c .before in let at-open = at-frame-of .before in let at-allowed = at-open .before .before in
-    let at-reach = at-allowed .before in let at-told = at-reach .before in let at-begun = at-told .before .before in
     rw (
-      access-checked _ _ _ _ _ _ _ _ _ (at-begun .begun .result) (at-allowed .allowed .result) (at-reach .reach .result)
-          (at-begun .begun .ensures) (at-reach .reach .ensures) (at-allowed .allowed .ensures),
-      at-told .enum-told .given .1,
+      checked at-allowed,
+      at-allowed .before .before .enum-told .given .1,
       at-open .enum-told2 .given .1,
       ← at-frame-of .frame-of .ensures,
       ← c .word .ensures,

@@ -3,7 +3,7 @@
 -- Assumes nothing.
 use borrow.Author.Needs.{needs}
 use Rattle.rules.specs.Answers.{settle}
-use Rattle.checks.specs.Passed.{withPage}
+use Rattle.checks.specs.Passed.{withNamed}
 use Rattle.assignment.proofs.update.rmpupdate.Statement.{statement}
 use Rattle.assignment.proofs.update.rmpupdate.Tie as tie
 
@@ -32,7 +32,7 @@ same-length-2 : tie.Need-same-length-2
 same-length-2 c = search needs
 
 returns : tie.Need-returns
-unfolding withPage settle
+unfolding withNamed settle
 returns c = rw (c .before .before .before .check-update .ensures, c .before .refusal .given .1)
 
 same-length-3 : tie.Need-same-length-3
@@ -42,7 +42,7 @@ same-length-4 : tie.Need-same-length-4
 same-length-4 c = search needs
 
 returns-2 : tie.Need-returns-2
-unfolding withPage settle
+unfolding withNamed settle
 returns-2 c =
     let at-assign = c .before .before .before .before .before in let at-frame-of = at-assign .before in
     let at-old = at-frame-of .before .before .before .before in let at-check-update = at-old .before .before in

@@ -1,17 +1,21 @@
 -- `assignment::validate::check_validate` meets its contract: each return is a case of the rule. What the calls before it promise, and the
 -- arm taken at each, rewrite the rule to it.
 -- Assumes nothing.
+use mathlib.Core.Path.{_≡_}
+use denote.Ref.{now}
 use borrow.Author.Needs.{needs}
-use Rattle.rules.specs.Assignment.{pvalidate}
-use Rattle.rules.specs.State.{entryAt}
+use Rattle.entries.specs.Entry.{frameOf}
+use Rattle.rules.specs.Answers.{grant, settle}
+use Rattle.rules.specs.Assignment.{pvalidate, validating, validateAnswer}
+use Rattle.rules.specs.State.{entryAt, state}
+use Rattle.checks.proofs.NamedLaws.{one-checked}
 use Rattle.checks.specs.Gate.{past}
-use Rattle.checks.proofs.PagesLaws.{page-entered}
-use Rattle.checks.specs.Passed.{withPage}
+use Rattle.checks.specs.Passed.{withNamed}
 use Rattle.assignment.proofs.validate.check_validate.Statement.{statement}
 use Rattle.assignment.proofs.validate.check_validate.Tie as tie
 
-pvalidate-requires : tie.Need-pvalidate-requires
-pvalidate-requires c κs = search needs
+begin-validate-requires : tie.Need-begin-validate-requires
+begin-validate-requires c κs = search needs
 
 first-requires : tie.Need-first-requires
 first-requires c κs = search needs
@@ -23,57 +27,62 @@ enum-told : tie.Need-enum-told
 enum-told c = search needs
 
 returns : tie.Need-returns
-unfolding pvalidate withPage entryAt
+unfolding pvalidate withNamed entryAt
 returns c =
     let at-first = c .before .before in
-    rw (← at-first .before .pvalidate .ensures, page-entered, ← at-first .first .ensures, c .enum-told .given .1)
+    rw (← at-first .before .begin-validate .ensures, one-checked _ _ (at-first .first .ensures), c .enum-told .given .1)
 
-pvalidate-requires-2 : tie.Need-pvalidate-requires-2
-pvalidate-requires-2 c κs = search needs
+validate-needs-met-requires : tie.Need-validate-needs-met-requires
+validate-needs-met-requires c κs = search needs
 
 enum-known-met : tie.Need-enum-known-met
 enum-known-met c = search needs
 
-returns-2 : tie.Need-returns-2
-unfolding pvalidate past withPage entryAt
-returns-2 c =
-    let at-met = c .before in let at-pvalidate2 = at-met .before .before in let at-named = at-pvalidate2 .before .before in
-    let at-first = at-named .before .before in
+-- where the needs were looked at: what is left of the rule
+passed :
+    (c : tie.After-validate-needs-met)
+    → let a = c .before .before .before .before .before .before .before .before .args in
+    let s = state (now (a .table)) (now (a .memory)) in
+    let page = c .before .before .named .given .0 .0 in
+    pvalidate s (a .caller) (a .gpa) (a .hpa) (a .kind)
+    ≡ settle s
+    (past (c .validate-needs-met .result)
+    (grant (validateAnswer page) (validating s (frameOf (a .hpa)) page)))
+unfolding pvalidate withNamed entryAt
+passed c =
+    let at-named = c .before .before in let at-first = at-named .before .before in
     rw (
-      ← at-first .before .pvalidate .ensures,
-      page-entered,
-      ← at-first .first .ensures,
+      ← at-first .before .begin-validate .ensures,
+      one-checked _ _ (at-first .first .ensures),
       at-named .named .given .1,
-      ← at-pvalidate2 .pvalidate2 .ensures,
-      at-met .met .given .1,
+      ← c .validate-needs-met .ensures,
     )
+
+returns-2 : tie.Need-returns-2
+unfolding past withNamed
+returns-2 c =
+    let at-met = c .before in let at-needs = at-met .before .before in
+    rw (passed at-needs, at-met .met .given .1)
 
 enum-told-2 : tie.Need-enum-told-2
 enum-told-2 c = search needs
 
 returns-3 : tie.Need-returns-3
-unfolding pvalidate past withPage entryAt
+unfolding past withNamed
 returns-3 c =
-    let at-pvalidate2 = c .before .before in let at-named = at-pvalidate2 .before .before in let at-first = at-named .before .before in
-    rw (
-      ← at-first .before .pvalidate .ensures,
-      page-entered,
-      ← at-first .first .ensures,
-      at-named .named .given .1,
-      ← at-pvalidate2 .pvalidate2 .ensures,
-      c .enum-told2 .given .1,
-    )
+    let at-needs = c .before .before in
+    rw (passed at-needs, c .enum-told2 .given .1)
 
 pub check-validate-spec : {M : Type 1} → statement M
 check-validate-spec =
     tie.close
     (tie.spec
-    pvalidate-requires
+    begin-validate-requires
     first-requires
     enum-known-named
     enum-told
     returns
-    pvalidate-requires-2
+    validate-needs-met-requires
     enum-known-met
     returns-2
     enum-told-2

@@ -5,7 +5,7 @@ use borrow.Author.Needs.{needs}
 use Rattle.rules.specs.Answers.{settle}
 use Rattle.rules.specs.Assignment.{validating}
 use Rattle.rules.specs.State.{withEntry}
-use Rattle.checks.specs.Passed.{withPage}
+use Rattle.checks.specs.Passed.{withNamed}
 use Rattle.assignment.proofs.validate.pvalidate.Statement.{statement}
 use Rattle.assignment.proofs.validate.pvalidate.Tie as tie
 
@@ -34,14 +34,14 @@ same-length : tie.Need-same-length
 same-length c = search needs
 
 returns : tie.Need-returns
-unfolding withPage settle validating withEntry
+unfolding withNamed settle validating withEntry
 returns c = rw (c .before .before .before .check-validate .ensures, c .before .refusal .given .1)
 
 same-length-2 : tie.Need-same-length-2
 same-length-2 c = search needs
 
 returns-2 : tie.Need-returns-2
-unfolding withPage settle validating withEntry
+unfolding withNamed settle validating withEntry
 returns-2 c =
     let at-put = c .before .before .before in let at-frame-of = at-put .before in let at-to-validated = at-frame-of .before .before in
     let at-page = at-to-validated .before .before in let at-check-validate = at-page .before .before in

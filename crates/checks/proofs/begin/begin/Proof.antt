@@ -6,41 +6,40 @@ use Rattle.checks.specs.Gate.{past}
 use Rattle.checks.proofs.begin.begin.Statement.{statement}
 use Rattle.checks.proofs.begin.begin.Tie as tie
 
-go-on-requires : tie.Need-go-on-requires
-go-on-requires c κs = search needs
-
-go-on-requires-2 : tie.Need-go-on-requires-2
-go-on-requires-2 c κs = search needs
-
-go-on-requires-3 : tie.Need-go-on-requires-3
-go-on-requires-3 c κs = search needs
-
 sizes-hold-requires : tie.Need-sizes-hold-requires
 sizes-hold-requires c κs = search needs
 
-go-on-requires-4 : tie.Need-go-on-requires-4
-go-on-requires-4 c κs = search needs
+and-then-requires : tie.Need-and-then-requires
+and-then-requires c κs = search needs
+
+and-then-requires-2 : tie.Need-and-then-requires-2
+and-then-requires-2 c κs = search needs
+
+and-then-requires-3 : tie.Need-and-then-requires-3
+and-then-requires-3 c κs = search needs
+
+and-then-requires-4 : tie.Need-and-then-requires-4
+and-then-requires-4 c κs = search needs
 
 returns : tie.Need-returns
 unfolding begins past
 returns c =
-    let at-sizes-hold = c .before in let at-go-on3 = at-sizes-hold .before in let at-go-on2 = at-go-on3 .before in
-    let at-go-on = at-go-on2 .before in
+    let at-and-then3 = c .before in let at-and-then2 = at-and-then3 .before in let at-and-then = at-and-then2 .before in
     λ v. rw (
-      c .go-on4 .ensures v,
-      at-sizes-hold .sizes-hold .ensures,
-      at-go-on3 .go-on3 .ensures v,
-      at-go-on2 .go-on2 .ensures v,
-      at-go-on .go-on .ensures v,
+      c .and-then4 .ensures,
+      at-and-then3 .and-then3 .ensures,
+      at-and-then2 .and-then2 .ensures,
+      at-and-then .and-then .ensures,
+      at-and-then .before .sizes-hold .ensures,
     )
 
 pub begin-spec : {M : Type 1} → statement M
 begin-spec =
     tie.close
     (tie.spec
-    go-on-requires
-    go-on-requires-2
-    go-on-requires-3
     sizes-hold-requires
-    go-on-requires-4
+    and-then-requires
+    and-then-requires-2
+    and-then-requires-3
+    and-then-requires-4
     returns)

@@ -3,7 +3,7 @@
 -- Assumes nothing.
 use borrow.Author.Needs.{needs}
 use Rattle.rules.specs.Answers.{settle}
-use Rattle.checks.specs.Passed.{withPages}
+use Rattle.checks.specs.Passed.{withBothNamed}
 use Rattle.fixing.proofs.fix.pfix.Statement.{statement}
 use Rattle.fixing.proofs.fix.pfix.Tie as tie
 
@@ -29,7 +29,7 @@ same-length-2 : tie.Need-same-length-2
 same-length-2 c = search needs
 
 returns : tie.Need-returns
-unfolding withPages settle
+unfolding withBothNamed settle
 returns c = rw (c .before .before .before .check-fix .ensures, c .before .refusal .given .1)
 
 same-length-3 : tie.Need-same-length-3
@@ -39,7 +39,7 @@ same-length-4 : tie.Need-same-length-4
 same-length-4 c = search needs
 
 returns-2 : tie.Need-returns-2
-unfolding withPages settle
+unfolding withBothNamed settle
 returns-2 c =
     let at-fix = c .before .before .before .before in let at-frame-of = at-fix .before in
     let at-old = at-frame-of .before .before .before .before in let at-check-fix = at-old .before .before in
