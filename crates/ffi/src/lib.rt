@@ -2,8 +2,6 @@
 // `include/skorbilek.h` declares them. A slice is a pointer and then a length, in words, on the other side.
 // Each promises two things: what it returns and leaves is the rule's outcome, flattened; and it is a call of a run, so that demand 3 is
 // kept by every run of them.
-pub mod answer;
-
 ghost use mathlib.Core.Path.{_≡_};
 ghost use Rattle.rules.specs.Access.{read, write};
 ghost use Rattle.rules.specs.Assignment.{rmpupdate, pvalidate};
@@ -13,9 +11,9 @@ ghost use Rattle.rules.specs.History.{made};
 ghost use Rattle.rules.specs.Merging.{pfix, pmerge, punmerge, punfix};
 ghost use Rattle.rules.specs.Run.{Promised};
 ghost use Rattle.rules.specs.State.{state};
-ghost use Rattle.ffi.specs.Flat.{returned, flattened, said};
-use crate::answer::Flat;
-use crate::answer::flatten;
+ghost use Rattle.flat.specs.Flat.{returned, flattened, said};
+use flat::Flat;
+use flat::flatten;
 
 #[no_mangle]
 pub extern "C" fn skorbilek_rmpupdate(

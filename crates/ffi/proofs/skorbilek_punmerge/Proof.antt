@@ -2,7 +2,7 @@
 -- Assumes nothing.
 use borrow.Author.Needs.{needs}
 use Rattle.rules.specs.Calls.{step}
-use Rattle.ffi.proofs.Carried.{carried}
+use Rattle.flat.proofs.Carried.{carried}
 use Rattle.ffi.proofs.skorbilek_punmerge.Statement.{statement}
 use Rattle.ffi.proofs.skorbilek_punmerge.Tie as tie
 

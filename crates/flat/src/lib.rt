@@ -1,7 +1,7 @@
 // An answer as a struct of numbers, which C can take.
 ghost use mathlib.Core.Path.{_≡_};
 ghost use Rattle.checks.specs.Answer.{told};
-ghost use Rattle.ffi.specs.Flat.{numbers, flat};
+ghost use Rattle.flat.specs.Flat.{numbers, flat};
 use checks::answer::Answer;
 
 // The kinds of answers.

@@ -1,9 +1,9 @@
--- `ffi::answer::flatten` meets its contract: each arm builds the numbers that `flat` has for its case.
+-- `flat::flatten` meets its contract: each arm builds the numbers that `flat` has for its case.
 -- Assumes nothing.
-use Rattle.ffi.specs.Flat.{flat}
+use Rattle.flat.specs.Flat.{flat}
 use borrow.Author.Needs.{needs}
-use Rattle.ffi.proofs.answer.flatten.Statement.{statement}
-use Rattle.ffi.proofs.answer.flatten.Tie as tie
+use Rattle.flat.proofs.flatten.Statement.{statement}
+use Rattle.flat.proofs.flatten.Tie as tie
 
 enum-known-answer : tie.Need-enum-known-answer
 enum-known-answer c = search needs

@@ -7,8 +7,8 @@ use Prim.Native.Nat.{ℕ}
 use Rattle.words.specs.Choice.{pick}
 use Rattle.rules.specs.Answers.{Told, refused, done, none, closed, opened, already, word, count, Outcome, outcome}
 use Rattle.rules.specs.State.{state}
-use Rattle.ffi.specs.Flat.{flat, returned, flattened, says, FlatSays, said}
-use Rattle.ffi.specs.declared.answer.Flat.{Flat}
+use Rattle.flat.specs.Flat.{flat, returned, flattened, says, FlatSays, said}
+use Rattle.flat.specs.declared.Flat.{Flat}
 
 pub flat-says : FlatSays
 unfolding flat says pick

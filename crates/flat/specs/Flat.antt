@@ -7,7 +7,7 @@ use lib.Dec.{eqb}
 use Rattle.words.specs.Choice.{pick}
 use Rattle.rules.specs.Answers.{Told, refused, done, none, closed, opened, already, word, count, Outcome, outcome}
 use Rattle.rules.specs.State.{State, state}
-use Rattle.ffi.specs.declared.answer.Flat.{Flat}
+use Rattle.flat.specs.declared.Flat.{Flat}
 
 -- the kinds
 abbrev pub REFUSED : ℕ
