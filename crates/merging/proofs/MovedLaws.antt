@@ -1,4 +1,5 @@
--- PUNMERGE's entry 2 is entry 1 moved: a fixed page in the table is MERGEABLE and VALIDATED, and where the page is not fixed nothing is done.
+-- PUNMERGE's entry 2 is entry 1 moved: a fixed page in the table is MERGEABLE and VALIDATED, and where the page is not fixed nothing is
+-- done.
 -- Assumes nothing.
 use mathlib.Core.Path.{_≡_, refl, sym, _∙_}
 use mathlib.Core.Bool.{true}
@@ -21,7 +22,7 @@ use Rattle.merging.specs.Moved.{moving}
 module _ (s : State) (frame1 : ℕ) (one : Entry) (frame2 asid : ℕ) (here : entryAt s frame1 ≡ Good one) where
   moving-is : one .fixed ≡ true → (gpa : ℕ) → unmerging s frame1 one frame2 asid gpa ≡ moving s frame1 one frame2 asid gpa
   unfolding unmerging moving
-  moving-is fixed gpa = rw (moved-is _ one asid gpa (entry-tells s frame1 one here) fixed)
+  moving-is fixed gpa = rw (moved-is _ one asid gpa (entry-tells s frame1 here) fixed)
 
   at-place :
       one .fixed ≡ true → (word : LeafWord)

@@ -42,8 +42,8 @@ way-place :
     {s : State} {w : Bool} {caller gpa f gtype : ℕ} → Way s w caller gpa f gtype → isOwned gtype ≡ true → holding s caller f ≡ holds gpa
 way-place (above high t) o = absurd (shared-unowned t o)
 way-place (shared e l here k t) o = absurd (shared-unowned t o)
-way-place (own e l here k t u a at v) o = rw (← at) (of-its-own _ _ _ e here u v a)
-way-place (merged e l here k t x r c) o = present-there _ _ _ e here x _ c
+way-place (own e l here k t u a at v) o = rw (← at) (of-its-own _ _ _ here u v a)
+way-place (merged e l here k t x r c) o = present-there _ _ _ here x _ c
 
 owned-not-shared : (kind : ℕ) → isOwned kind ≡ true → eqb kind SHARED ≡ false
 owned-not-shared kind o = ne-eqb kind SHARED (λ k. shared-unowned k o)
@@ -122,9 +122,9 @@ module _ {s : State} (sound : Sound s) {caller gpa hpa gtype ntype index : ℕ} 
   shared-off :
       Way s true caller gpa (frameOf hpa) gtype → isOwned gtype ≡ false → (f at : ℕ) → holding s guest f ≡ holds at → f ≢ frameOf hpa
   shared-off (above high t) o f at h same = let l = holding-inside s guest at f h in let z : ⊥ = omega arith in absurd z
-  shared-off (shared e l here k t) o f at h same = place-apart s guest at f _ h (nobodys s guest _ e here (shared-unowned k)) same
+  shared-off (shared e l here k t) o f at h same = place-apart s guest at f _ h (nobodys s guest _ here (shared-unowned k)) same
   shared-off (own e l here k t u a w v) o f at h same =
-      false-not-true o (rw (← k) (entry-tells s _ e here .validated-owned v))
+      false-not-true o (rw (← k) (entry-tells s _ here .validated-owned v))
   shared-off (merged e l here k t x r c) o f at h same = absurd (false≢true (sym r))
 
   shared-change : isOwned gtype ≡ false → Change s writtenNow noEvent guest
@@ -136,7 +136,7 @@ module _ {s : State} (sound : Sound s) {caller gpa hpa gtype ntype index : ℕ} 
   only-callers : Way s true caller gpa (frameOf hpa) gtype → isOwned gtype ≡ true → caller ≢ guest → holding s guest (frameOf hpa) ≡ nothing
   only-callers (above high t) o other = absurd (shared-unowned t o)
   only-callers (shared e l here k t) o other = absurd (shared-unowned t o)
-  only-callers (own e l here k t u a w v) o other = of-another s guest _ e here u (λ same. other (sym a ∙ same))
+  only-callers (own e l here k t u a w v) o other = of-another s guest _ here u (λ same. other (sym a ∙ same))
   only-callers (merged e l here k t x r c) o other = absurd (false≢true (sym r))
 
   module _ (o : isOwned gtype ≡ true) where

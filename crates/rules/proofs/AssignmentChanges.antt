@@ -41,7 +41,7 @@ module _ {s : State} (sound : Sound s) {caller hpa gpa asid kind : ℕ} {before 
   -- the frame is no place afterwards
   update-left : holding updated guest (frameOf hpa) ≡ nothing
   unfolding entry
-  update-left = unopened updated guest _ _ (update-effect .put .here) refl refl
+  update-left = unopened updated guest _ (update-effect .put .here) refl refl
 
   -- what it was before is closed, or was nothing
   closed-change : before .validated ≡ true → Change s updated (closes (before .asid) (before .address)) guest
@@ -50,7 +50,7 @@ module _ {s : State} (sound : Sound s) {caller hpa gpa asid kind : ℕ} {before 
       record {
         balance = λ at.
             let one = places-one s updated guest (update-effect .put .same-size .same-N) _ (p .inside) update-beside at in
-            omega (arith, one, page-counts s guest _ before (p .here) (p .unfixed) v at, nothing-counts at update-left);
+            omega (arith, one, page-counts s guest _ (p .here) (p .unfixed) v at, nothing-counts at update-left);
         whence = λ at f most h.
             let off = place-apart updated guest at f _ h update-left in
             old f (sym (update-beside f off) ∙ h) (λ i. update-effect .words f i off);
@@ -63,7 +63,7 @@ module _ {s : State} (sound : Sound s) {caller hpa gpa asid kind : ℕ} {before 
       (λ f at i h. update-effect .words f i (place-apart s guest at f _ h was))
     where
       was : holding s guest (frameOf hpa) ≡ nothing
-      was = unopened s guest _ before (p .here) (p .unfixed) v
+      was = unopened s guest _ (p .here) (p .unfixed) v
 
   pub update-change : Change s updated (eventOf (RMPUPDATE caller hpa gpa asid kind) (updateAnswer before)) guest
   unfolding eventOf byAnswer updateAnswer
@@ -90,14 +90,14 @@ module _ {s : State} (sound : Sound s) {caller gpa hpa kind : ℕ} {before : Ent
   unfolding entry written
   whence-opened at f h =
       ⊎-elim (λ here. ⊎-elim (λ own. new (frameOf hpa) (here-opened here own) (λ i. rw here (validate-effect .words _ i)))
-      (λ other. absurd (place-apart validated guest at f _ h (of-another validated guest _ _ (validate-effect .put .here) refl other) here))
+      (λ other. absurd (place-apart validated guest at f _ h (of-another validated guest _ (validate-effect .put .here) refl other) here))
       (same-or-not caller guest))
       (λ away. old f (sym (validate-beside f away) ∙ h) (λ i. validate-effect .words f i))
       (same-or-not f (frameOf hpa))
     where
       here-opened : f ≡ frameOf hpa → caller ≡ guest → opens caller gpa (frameOf hpa) ≡ opens guest at (frameOf hpa)
       here-opened here own =
-          let k = of-its-own validated guest _ _ (validate-effect .put .here) refl refl own in
+          let k = of-its-own validated guest _ (validate-effect .put .here) refl refl own in
           rw (own, one-address validated guest _ f gpa at k h (sym here))
 
   opened-change : before .validated ≡ false → Change s validated (opens caller gpa (frameOf hpa)) guest
@@ -106,12 +106,12 @@ module _ {s : State} (sound : Sound s) {caller gpa hpa kind : ℕ} {before : Ent
       record {
         balance = λ at.
             let one = places-one s validated guest (validate-effect .put .same-size .same-N) _ (p .inside) validate-beside at in
-            omega (arith, one, page-counts validated guest _ _ (validate-effect .put .here) refl refl at, nothing-before at);
+            omega (arith, one, page-counts validated guest _ (validate-effect .put .here) refl refl at, nothing-before at);
         whence = λ at f most h. whence-opened at f h;
       }
     where
       nothing-before : (at : ℕ) → placeIn (holding s guest (frameOf hpa)) at ≡ 0
-      nothing-before at = nothing-counts at (unopened s guest _ before (p .here) (p .unfixed) v)
+      nothing-before at = nothing-counts at (unopened s guest _ (p .here) (p .unfixed) v)
 
   pub validate-change : Change s validated (eventOf (PVALIDATE caller gpa hpa kind) (validateAnswer before)) guest
   unfolding eventOf byAnswer validateAnswer

@@ -27,7 +27,7 @@ use Rattle.rules.proofs.StateLaws.{entry-tells, entry-after-word, word-
 module _ {s : State} (sound : Sound s) (g : ℕ) {d : Entry} (page : entryAt s g ≡ Good d) (fixed : d .fixed ≡ true) where
   -- the leaf of a fixed page is no frame of another type
   leaf-off : (f : ℕ) {e : Entry} → entryAt s f ≡ Good e → e .kind ≢ LEAF → leafFrame d ≢ f
-  leaf-off f here other = leaf-apart s _ f _ (is-a-leaf s d 0 (sound .unbroken g d 0 page fixed)) here other
+  leaf-off f here other = leaf-apart s _ f (is-a-leaf s d 0 (sound .unbroken g d 0 page fixed)) here other
 
   -- nor the leaf of another fixed page
   leaf-own : (f : ℕ) {e : Entry} → entryAt s f ≡ Good e → e .fixed ≡ true → g ≢ f → leafFrame d ≢ leafFrame e
@@ -57,7 +57,7 @@ module _ {s : State} (sound : Sound s) (g : ℕ) {d : Entry} (page : entryAt s g
     fixed-consulted p =
         let e = fixing-does p in
         let off = leaf-off _ (p .here) (not-a-leaf MERGEABLE (p .type) (omega arith)) in
-        let free = unused-leaf s _ g d (p .unused) (two-addresses _ _ _ (p .arguments) .1) page fixed in
+        let free = unused-leaf s _ g (p .unused) (two-addresses _ _ _ (p .arguments) .1) page fixed in
         consulted-same s _ d guest (e .put .elsewhere _ off) (e .words _ _ free)
 
     pub merged-consulted :
@@ -87,9 +87,9 @@ module _ {s : State} (sound : Sound s) (g : ℕ) {d : Entry} (page : entryAt s g
 
   -- a write goes to no leaf
   write-off : {caller gpa f gtype : ℕ} → Way s true caller gpa f gtype → leafFrame d ≢ f
-  write-off (above high t) = λ same. let l = leaf-inside s g d page fixed in let z : ⊥ = omega arith in absurd z
+  write-off (above high t) = λ same. let l = leaf-inside s g page fixed in let z : ⊥ = omega arith in absurd z
   write-off (shared e l here k t) = leaf-off _ here (not-a-leaf SHARED k (omega arith))
-  write-off (own e l here k t u o a v) = leaf-off _ here (owned-no-leaf _ (entry-tells s _ e here .validated-owned v))
+  write-off (own e l here k t u o a v) = leaf-off _ here (owned-no-leaf _ (entry-tells s _ here .validated-owned v))
   write-off (merged e l here k t u w c) = absurd (false≢true (sym w))
 
   pub written-consulted :
@@ -108,7 +108,7 @@ module _ {s : State} {caller hpa leaf : ℕ} {old : Entry} (p : Fixed s caller h
   unfolding leafFrame entry
   new-leaf =
       let e = fixing-does p in
-      let off = leaf-apart s _ _ old (p .is-leaf) (p .here) (not-a-leaf MERGEABLE (p .type) (omega arith)) in
+      let off = leaf-apart s _ _ (p .is-leaf) (p .here) (not-a-leaf MERGEABLE (p .type) (omega arith)) in
       rw (e .put .elsewhere _ off) (p .is-leaf)
 
   pub fixed-owner : consulted (fixing s (frameOf hpa) old leaf) FixedEntry (old .asid) ≡ Present (old .address)
@@ -116,7 +116,7 @@ module _ {s : State} {caller hpa leaf : ℕ} {old : Entry} (p : Fixed s caller h
   fixed-owner =
       let e = fixing-does p in
       consulted-is _ FixedEntry (old .asid) new-leaf
-      ∙ rw (e .owner-word) (leaf-present _ (entry-tells s _ old (p .here) .address-fits))
+      ∙ rw (e .owner-word) (leaf-present _ (entry-tells s _ (p .here) .address-fits))
 
   pub fixed-others : (guest : ℕ) → guest ≢ old .asid → consulted (fixing s (frameOf hpa) old leaf) FixedEntry guest ≡ Absent
   unfolding leafFrame entry
@@ -129,7 +129,7 @@ module _ {s : State} {caller hpa1 hpa2 : ℕ} {one two : Entry} (p : Merged s ca
   merged-here =
       let e = merging-does p in
       consulted-is _ one (two .asid) (rw (e .put .elsewhere _ (e .apart)) (e .is-leaf))
-      ∙ rw (e .leaf-word) (leaf-present _ (entry-tells s _ two (p .here2) .address-fits))
+      ∙ rw (e .leaf-word) (leaf-present _ (entry-tells s _ (p .here2) .address-fits))
 
   pub merged-others : (guest : ℕ) → guest ≢ two .asid → consulted (merging s one (frameOf hpa2) two) one guest ≡ consulted s one guest
   merged-others guest other =

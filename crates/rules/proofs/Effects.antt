@@ -133,7 +133,7 @@ module _ {s : State} {caller hpa leaf : ℕ} {old : Entry} (p : Fixed s caller h
   unfolding fixing toFixed
   fixing-does =
       let z = sizes s (p .size) in
-      let t = entry-tells s _ old (p .here) in
+      let t = entry-tells s _ (p .here) in
       let small = t .asid-small in
       let inside = p .leaf-inside in
       let least = z .memory-least in
@@ -168,11 +168,11 @@ module _ {s : State} {caller hpa1 hpa2 : ℕ} {one two : Entry} (p : Merged s ca
   pub merging-does : Merges s (merging s one (frameOf hpa2) two) (leafFrame one) (frameOf hpa2) two
   unfolding merging
   merging-does =
-      let inside = leaf-inside s _ one (p .here1) (p .fixed1) in
+      let inside = leaf-inside s _ (p .here1) (p .fixed1) in
       let least = sizes s (p .size) .memory-least in
-      let small = entry-tells s _ two (p .here2) .asid-small in
+      let small = entry-tells s _ (p .here2) .asid-small in
       let is-leaf = is-a-leaf s one (two .asid) (from-absent (p .no-place)) in
-      let apart = leaf-apart s _ _ two is-leaf (p .here2) (not-a-leaf MERGEABLE (p .type2) (omega arith)) in
+      let apart = leaf-apart s _ _ is-leaf (p .here2) (not-a-leaf MERGEABLE (p .type2) (omega arith)) in
       record {
         put = put-after (memory-both (memory-word s _ _ _) (memory-frame _ _ _)) _ _ (p .inside2) (zero-fits (N s));
         is-leaf = is-leaf;
@@ -198,13 +198,13 @@ module _ {s : State} {caller hpa1 hpa2 asid : ℕ} {one two : Entry} {gpa : ℕ}
       (entry asid MERGEABLE true false gpa)
   unfolding unmerging
   unmerging-does =
-      let inside = leaf-inside s _ one (p .here1) (p .fixed1) in
+      let inside = leaf-inside s _ (p .here1) (p .fixed1) in
       let least = sizes s (p .size) .memory-least in
       let inside1 = p .inside1 in
       let inside2 = p .inside2 in
       let range = guest-range asid (unmerge-tells caller hpa1 hpa2 asid (p .arguments) .2) in
       let is-leaf = is-a-leaf s one asid (from-present (p .place)) in
-      let apart = leaf-apart s _ _ two is-leaf (p .here2) (not-a-leaf SHARED (p .type2) (omega arith)) in
+      let apart = leaf-apart s _ _ is-leaf (p .here2) (not-a-leaf SHARED (p .type2) (omega arith)) in
       let address = consulted-address s one asid gpa (p .place) in
       let fits = page-fits (N s) asid MERGEABLE true gpa (mergeable-owned _ refl) (range .0) (omega arith) address in
       let e = entry asid MERGEABLE true false gpa in
@@ -242,10 +242,10 @@ module _ {s : State} {caller hpa : ℕ} {old : Entry} {gpa : ℕ} (p : Unfixed s
       Unfixes s (unfixing s (frameOf hpa) old gpa) (frameOf hpa) (leafFrame old) (entry (old .asid) MERGEABLE true false gpa)
   unfolding unfixing
   unfixing-does =
-      let inside = leaf-inside s _ old (p .here) (p .fixed) in
-      let t = entry-tells s _ old (p .here) in
+      let inside = leaf-inside s _ (p .here) (p .fixed) in
+      let t = entry-tells s _ (p .here) in
       let is-leaf = is-a-leaf s old (old .asid) (from-present (p .place)) in
-      let apart = leaf-apart s _ _ old is-leaf (p .here) (not-a-leaf MERGEABLE (p .type) (omega arith)) in
+      let apart = leaf-apart s _ _ is-leaf (p .here) (not-a-leaf MERGEABLE (p .type) (omega arith)) in
       let address = consulted-address s old (old .asid) gpa (p .place) in
       let some = t .owned-asid (mergeable-owned _ (p .type)) in
       let fits = page-fits (N s) (old .asid) MERGEABLE true gpa (mergeable-owned _ refl) some (t .asid-small) address in

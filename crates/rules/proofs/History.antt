@@ -25,7 +25,7 @@ module _ (length : ℕ) (memory : List ℕ) where
   none-fixed : (f : ℕ) (e : Entry) → entryAt (emptyTable length memory) f ≡ Good e → e .fixed ≡ false
   unfolding zeroEntry entry
   none-fixed f e here =
-      let zero-here = entry-of-empty length memory f (entry-inside (emptyTable length memory) f e here) in
+      let zero-here = entry-of-empty length memory f (entry-inside (emptyTable length memory) f here) in
       let same : e ≡ zeroEntry = cc in
       rw same refl
 
@@ -41,7 +41,7 @@ module _ (length : ℕ) (memory : List ℕ) where
   unfolding zeroEntry entry
   no-place-yet guest gpa =
       places-are (emptyTable length memory) guest gpa
-      ∙ sum-none _ _ (λ f h. nothing-counts gpa (unopened _ guest f zeroEntry (entry-of-empty length memory f h) refl refl))
+      ∙ sum-none _ _ (λ f h. nothing-counts gpa (unopened _ guest f (entry-of-empty length memory f h) refl refl))
 
 pub no-counter-goes-back : Demand3
 no-counter-goes-back length memory calls =

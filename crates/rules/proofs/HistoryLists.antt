@@ -1,4 +1,5 @@
--- Lists of calls as they were made: their openings counted and found, and a list that is cut at one of its calls, which got what the calls before it left. By induction on the calls.
+-- Lists of calls as they were made: their openings counted and found, and a list that is cut at one of its calls, which got what the calls
+-- before it left. By induction on the calls.
 -- Assumes nothing.
 use mathlib.Core.Path.{_≡_, refl, ap}
 use mathlib.Core.Bool.{Bool, true, false, false≢true}

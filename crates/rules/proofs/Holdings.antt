@@ -22,7 +22,7 @@ use Rattle.rules.specs.State.{State, entryAt}
 use Rattle.rules.proofs.Leaves.{consulted-address, leaf-good, owned-no-leaf}
 use Rattle.rules.proofs.StateLaws.{entry-tells}
 
-module _ (s : State) (guest f : ℕ) (e : Entry) (here : entryAt s f ≡ Good e) where
+module _ (s : State) (guest f : ℕ) {e : Entry} (here : entryAt s f ≡ Good e) where
   -- a fixed page
   module _ (fixed : e .fixed ≡ true) where
     by-word : holding s guest f ≡ inLeaf (consulted s e guest)
@@ -55,16 +55,16 @@ module _ (s : State) (guest f : ℕ) (e : Entry) (here : entryAt s f ≡ Good e)
     of-its-own v own = by-owner ∙ pick-true _ _ (rw (v, eq-eqb _ _ own))
 
 -- a frame that belongs to no guest
-pub nobodys : (s : State) (guest f : ℕ) (e : Entry) → entryAt s f ≡ Good e → (isOwned (e .kind) ≡ true → ⊥) → holding s guest f ≡ nothing
-nobodys s guest f e here none =
-    let t = entry-tells s f e here in
+pub nobodys : (s : State) (guest f : ℕ) {e : Entry} → entryAt s f ≡ Good e → (isOwned (e .kind) ≡ true → ⊥) → holding s guest f ≡ nothing
+nobodys s guest f {e} here none =
+    let t = entry-tells s f here in
     let v : e .validated ≡ false = ⊎-elim (λ v. absurd (none (t .validated-owned v))) (λ v. v) (true-or-false (e .validated)) in
     let x : e .fixed ≡ false = ⊎-elim (λ x. false-not-true v (t .fixed-validated x)) (λ x. x) (true-or-false (e .fixed)) in
-    unopened s guest f e here x v
+    unopened s guest f here x v
 
 pub leaf-nothing : (s : State) (guest f : ℕ) → isLeaf (entryAt s f) ≡ true → holding s guest f ≡ nothing
 leaf-nothing s guest f h =
-    let leaf = leaf-good (entryAt s f) h in nobodys s guest f (leaf .0) (leaf .1 .0) (λ o. owned-no-leaf _ o (leaf .1 .1))
+    let leaf = leaf-good (entryAt s f) h in nobodys s guest f (leaf .1 .0) (λ o. owned-no-leaf _ o (leaf .1 .1))
 
 pub holding-same :
     (s u : State) (guest f : ℕ) → entryAt u f ≡ entryAt s f
@@ -101,6 +101,6 @@ holding-address s guest gpa f = go (entryAt s f) refl
     go : (d : Decoded) → entryAt s f ≡ d → inEntry s guest d ≡ holds gpa → isAddress gpa ≡ true
     go (Good e) here h =
         ⊎-elim (λ fixed. consulted-address s e guest gpa (present-only _ gpa (sym (pick-true _ _ fixed) ∙ h)))
-        (λ unfixed. rw (own-only _ _ gpa (sym (pick-false _ _ unfixed) ∙ h)) at (entry-tells s f e here .address-fits))
+        (λ unfixed. rw (own-only _ _ gpa (sym (pick-false _ _ unfixed) ∙ h)) at (entry-tells s f here .address-fits))
         (true-or-false (e .fixed))
     go Bad here h = absurd (false≢true (cc))

@@ -61,8 +61,8 @@ unfolding isLeaf
 leaf-good (Good e) h = (e, (refl, eqb-true _ _ h))
 leaf-good Bad h = absurd (false≢true h)
 
-pub leaf-apart : (s : State) (f g : ℕ) (e : Entry) → isLeaf (entryAt s f) ≡ true → entryAt s g ≡ Good e → e .kind ≢ LEAF → f ≢ g
-leaf-apart s f g e h here other same =
+pub leaf-apart : (s : State) (f g : ℕ) {e : Entry} → isLeaf (entryAt s f) ≡ true → entryAt s g ≡ Good e → e .kind ≢ LEAF → f ≢ g
+leaf-apart s f g {e} h here other same =
     let leaf = leaf-good (entryAt s f) h in
     let there = leaf .1 .0 in
     let one : leaf .0 ≡ e = cc in
@@ -78,9 +78,9 @@ pub shared-unowned : {kind : ℕ} → kind ≡ SHARED → isOwned kind ≡ true 
 shared-unowned k o = ⊎-elim (λ h. let z : ⊥ = omega arith in absurd z) (λ h. let z : ⊥ = omega arith in absurd z) (owned-kinds _ o)
 
 -- the leaf of a fixed page is in the table
-pub leaf-inside : (s : State) (f : ℕ) (page : Entry) → entryAt s f ≡ Good page → page .fixed ≡ true → leafFrame page < N s
+pub leaf-inside : (s : State) (f : ℕ) {page : Entry} → entryAt s f ≡ Good page → page .fixed ≡ true → leafFrame page < N s
 unfolding leafFrame
-leaf-inside s f page here fixed = entry-tells s f page here .fixed-leaf fixed
+leaf-inside s f here fixed = entry-tells s f here .fixed-leaf fixed
 
 -- ---- 15: a leaf that is not in use
 not-named : (s t : Bool) → s or t ≡ false → (s ≡ false) × (t ≡ false)
@@ -107,12 +107,12 @@ unfolding frameOf
 same-frame a b h k same = let p = address-whole a h in let q = address-whole b k in omega arith
 
 pub unused-leaf :
-    (s : State) (leaf f : ℕ) (e : Entry) → leafInUse s leaf (N s) ≡ false → isAddress leaf ≡ true → entryAt s f ≡ Good e → e .fixed ≡ true
+    (s : State) (leaf f : ℕ) {e : Entry} → leafInUse s leaf (N s) ≡ false → isAddress leaf ≡ true → entryAt s f ≡ Good e → e .fixed ≡ true
     → leafFrame e ≢ frameOf leaf
 unfolding leafFrame
-unused-leaf s leaf f e free address here fixed same =
-    unused-below s leaf (N s) f e free (entry-inside s f e here) here fixed
-    (same-frame _ _ (entry-tells s f e here .address-fits) address same)
+unused-leaf s leaf f free address here fixed same =
+    unused-below s leaf (N s) f _ free (entry-inside s f here) here fixed
+    (same-frame _ _ (entry-tells s f here .address-fits) address same)
 
 -- ---- 17: a leaf that no other guest shares
 even-absent : (w : ℕ) → eqb (w % 2) 1 ≡ false → leafWord w ≡ Absent

@@ -42,12 +42,12 @@ module _ {s : State} (sound : Sound s) {caller hpa leaf : ℕ} {before : Entry} 
       ⊎-elim
       (λ own.
       rw (← own)
-      (present-there fixedNow _ _ _ (fix-effect .put .here) refl _ (fixed-owner p)
-      ∙ sym (of-its-own s _ _ before (p .here) (p .unfixed) (p .validated) refl)))
+      (present-there fixedNow _ _ (fix-effect .put .here) refl _ (fixed-owner p)
+      ∙ sym (of-its-own s _ _ (p .here) (p .unfixed) (p .validated) refl)))
       (λ other.
-      absent-there fixedNow guest _ _ (fix-effect .put .here) refl
+      absent-there fixedNow guest _ (fix-effect .put .here) refl
       (fixed-others p guest (λ same. other (sym same)))
-      ∙ sym (of-another s guest _ before (p .here) (p .unfixed) other))
+      ∙ sym (of-another s guest _ (p .here) (p .unfixed) other))
       (same-or-not (before .asid) guest)
 
   pub fix-change : Change s fixedNow noEvent guest
@@ -75,12 +75,12 @@ module _ {s : State} (sound : Sound s) {caller hpa : ℕ} {before : Entry} {gpa 
       ⊎-elim
       (λ own.
       rw (← own)
-      (of-its-own unfixedNow _ _ _ (unfix-effect .here) refl refl refl
-      ∙ sym (present-there s _ _ before (p .here) (p .fixed) gpa (p .place))))
+      (of-its-own unfixedNow _ _ (unfix-effect .here) refl refl refl
+      ∙ sym (present-there s _ _ (p .here) (p .fixed) gpa (p .place))))
       (λ other.
       let small = guest-range guest range .1 in
-      of-another unfixedNow guest _ _ (unfix-effect .here) refl other
-      ∙ sym (absent-there s guest _ before (p .here) (p .fixed)
+      of-another unfixedNow guest _ (unfix-effect .here) refl other
+      ∙ sym (absent-there s guest _ (p .here) (p .fixed)
       (consulted-is s before guest (unfix-effect .is-leaf)
       ∙ unshared-word s _ (before .asid) 512 guest (p .unshared) (omega arith) (λ same. other (sym same)))))
       (same-or-not (before .asid) guest)
@@ -91,7 +91,7 @@ module _ {s : State} (sound : Sound s) {caller hpa : ℕ} {before : Entry} {gpa 
       stays s unfixedNow guest (unfix-effect .same-size .same-N)
       (λ f. ⊎-elim (λ here. rw here unfixed-here)
       (λ other. ⊎-elim
-      (λ at. rw at (unopened unfixedNow guest _ _ (unfix-effect .leaf-here) refl refl
+      (λ at. rw at (unopened unfixedNow guest _ (unfix-effect .leaf-here) refl refl
       ∙ sym (leaf-nothing s guest _ (unfix-effect .is-leaf))))
       (λ off. holding-same s unfixedNow guest f (unfix-effect .elsewhere f other off)
       (λ e here fixed. unfixed-consulted sound f here fixed guest p other))
@@ -109,12 +109,12 @@ module _ {s : State} (sound : Sound s) {caller hpa1 hpa2 : ℕ} {one two : Entry
 
   -- frame 1 is fixed and frame 2 is not
   merge-apart : frameOf hpa1 ≢ frameOf hpa2
-  merge-apart same = false-not-true (p .unfixed2) (rw (← (same-good s _ _ one two (p .here1) (p .here2) same)) (p .fixed1))
+  merge-apart same = false-not-true (p .unfixed2) (rw (← (same-good s _ _ (p .here1) (p .here2) same)) (p .fixed1))
 
   module _ (guest : ℕ) where
     merge-left : holding mergedNow guest (frameOf hpa2) ≡ nothing
     unfolding zeroEntry entry
-    merge-left = unopened mergedNow guest _ _ (merge-effect .put .here) refl refl
+    merge-left = unopened mergedNow guest _ (merge-effect .put .here) refl refl
 
     -- a frame other than the two
     merge-beside : (f : ℕ) → f ≢ frameOf hpa1 → f ≢ frameOf hpa2 → holding mergedNow guest f ≡ holding s guest f
@@ -136,12 +136,12 @@ module _ {s : State} (sound : Sound s) {caller hpa1 hpa2 : ℕ} {one two : Entry
         (λ f gpa i h. merge-words f gpa i (place-apart s guest gpa f _ h was) h)
       where
         was : holding s guest (frameOf hpa2) ≡ nothing
-        was = of-another s guest _ two (p .here2) (p .unfixed2) other
+        was = of-another s guest _ (p .here2) (p .unfixed2) other
 
         first : holding mergedNow guest (frameOf hpa1) ≡ holding s guest (frameOf hpa1)
         first =
             holding-same s mergedNow guest _ (merge-effect .put .elsewhere _ merge-apart)
-            (λ e here fixed. rw (same-good s _ _ e one here (p .here1) refl)
+            (λ e here fixed. rw (same-good s _ _ here (p .here1) refl)
             (merged-others p guest (λ same. other (sym same))))
 
   -- the place of frame 2's owner moves from frame 2 to frame 1, whose words are the same
@@ -152,8 +152,8 @@ module _ {s : State} (sound : Sound s) {caller hpa1 hpa2 : ℕ} {one two : Entry
       let in2 = p .inside2 in
       let off = place-apart mergedNow (two .asid) (two .address) (frameOf hpa1) _ to (leaf-nothing mergedNow (two .asid) _ leaf) in
       moves s mergedNow (two .asid) (merge-effect .put .same-size .same-N) (frameOf hpa2) (frameOf hpa1) (two .address)
-      (of-its-own s _ _ two (p .here2) (p .unfixed2) (p .validated2) refl)
-      (absent-there s _ _ one (p .here1) (p .fixed1) (p .no-place))
+      (of-its-own s _ _ (p .here2) (p .unfixed2) (p .validated2) refl)
+      (absent-there s _ _ (p .here1) (p .fixed1) (p .no-place))
       (merge-left (two .asid))
       to
       (λ f away off. merge-beside (two .asid) f off away)
@@ -165,7 +165,7 @@ module _ {s : State} (sound : Sound s) {caller hpa1 hpa2 : ℕ} {one two : Entry
 
       to : holding mergedNow (two .asid) (frameOf hpa1) ≡ holds (two .address)
       to =
-          present-there mergedNow _ _ one (merge-effect .put .elsewhere _ merge-apart ∙ p .here1) (p .fixed1) _
+          present-there mergedNow _ _ (merge-effect .put .elsewhere _ merge-apart ∙ p .here1) (p .fixed1) _
           (merged-here p)
 
   pub merge-change : (guest : ℕ) → Change s mergedNow noEvent guest
@@ -183,14 +183,14 @@ module _ {s : State} (sound : Sound s) {caller hpa1 hpa2 asid : ℕ} {one two : 
   -- frame 1 is MERGEABLE and frame 2 is SHARED
   unmerge-apart : frameOf hpa1 ≢ frameOf hpa2
   unmerge-apart same =
-      let q = same-good s _ _ one two (p .here1) (p .here2) same in
+      let q = same-good s _ _ (p .here1) (p .here2) same in
       let k = p .type1 in
       let l : one .kind ≡ SHARED = rw q (p .type2) in
       let z : ⊥ = omega arith in absurd z
 
   module _ (guest : ℕ) where
     unmerge-free : holding s guest (frameOf hpa2) ≡ nothing
-    unmerge-free = nobodys s guest _ two (p .here2) (shared-unowned (p .type2))
+    unmerge-free = nobodys s guest _ (p .here2) (shared-unowned (p .type2))
 
     unmerge-beside : (f : ℕ) → f ≢ frameOf hpa1 → f ≢ frameOf hpa2 → holding unmergedNow guest f ≡ holding s guest f
     unmerge-beside f off away =
@@ -205,7 +205,7 @@ module _ {s : State} (sound : Sound s) {caller hpa1 hpa2 asid : ℕ} {one two : 
     unfolding entry
     unmerge-stays other =
         stays s unmergedNow guest (unmerge-effect .put .same-size .same-N)
-        (λ f. ⊎-elim (λ here. rw here (of-another unmergedNow guest _ _ (unmerge-effect .put .here) refl other ∙ sym unmerge-free))
+        (λ f. ⊎-elim (λ here. rw here (of-another unmergedNow guest _ (unmerge-effect .put .here) refl other ∙ sym unmerge-free))
         (λ away. ⊎-elim (λ here. rw here first) (λ off. unmerge-beside f off away) (same-or-not f (frameOf hpa1)))
         (same-or-not f (frameOf hpa2)))
         (λ f at i h. unmerge-words f at i (place-apart s guest at f _ h unmerge-free) h)
@@ -213,7 +213,7 @@ module _ {s : State} (sound : Sound s) {caller hpa1 hpa2 asid : ℕ} {one two : 
         first : holding unmergedNow guest (frameOf hpa1) ≡ holding s guest (frameOf hpa1)
         first =
             holding-same s unmergedNow guest _ (unmerge-effect .put .elsewhere _ unmerge-apart)
-            (λ e here fixed. rw (same-good s _ _ e one here (p .here1) refl)
+            (λ e here fixed. rw (same-good s _ _ here (p .here1) refl)
             (unmerged-others p guest (λ same. other (sym same))))
 
   -- the guest's place moves from frame 1 to its copy in frame 2
@@ -221,11 +221,11 @@ module _ {s : State} (sound : Sound s) {caller hpa1 hpa2 asid : ℕ} {one two : 
   unfolding entry
   unmerge-moves =
       moves s unmergedNow asid (unmerge-effect .put .same-size .same-N) (frameOf hpa1) (frameOf hpa2) gpa
-      (present-there s _ _ one (p .here1) (p .fixed1) gpa (p .place))
+      (present-there s _ _ (p .here1) (p .fixed1) gpa (p .place))
       (unmerge-free asid)
-      (absent-there unmergedNow _ _ one (unmerge-effect .put .elsewhere _ unmerge-apart ∙ p .here1) (p .fixed1)
+      (absent-there unmergedNow _ _ (unmerge-effect .put .elsewhere _ unmerge-apart ∙ p .here1) (p .fixed1)
       (unmerged-here p))
-      (of-its-own unmergedNow _ _ _ (unmerge-effect .put .here) refl refl refl)
+      (of-its-own unmergedNow _ _ (unmerge-effect .put .here) refl refl refl)
       (unmerge-beside asid)
       (unmerge-effect .copied)
       (λ f at i off away h. unmerge-words asid f at i away h)

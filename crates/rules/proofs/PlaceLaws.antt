@@ -41,7 +41,7 @@ module _ (s : State) (guest gpa : ℕ) where
   holding-inside f = go (entryAt s f) refl
     where
       go : (d : Decoded) → entryAt s f ≡ d → inEntry s guest d ≡ holds gpa → f < N s
-      go (Good e) here h = entry-inside s f e here
+      go (Good e) here h = entry-inside s f here
       go Bad here h = absurd (false≢true (cc))
 
   place-is-one : (f : ℕ) → holding s guest f ≡ holds gpa → placeAt s guest gpa f ≡ 1
@@ -76,12 +76,12 @@ nothing-counts gpa e = rw e
 
 -- a page that is not fixed and is VALIDATED counts for its owner at its address
 pub page-counts :
-    (s : State) (guest f : ℕ) (e : Entry) → entryAt s f ≡ Good e → e .fixed ≡ false → e .validated ≡ true → (gpa : ℕ)
+    (s : State) (guest f : ℕ) {e : Entry} → entryAt s f ≡ Good e → e .fixed ≡ false → e .validated ≡ true → (gpa : ℕ)
     → placeIn (holding s guest f) gpa ≡ bit (eqb (e .asid) guest and eqb (e .address) gpa)
 unfolding placeIn _and_ bit pick
-page-counts s guest f e here unfixed v gpa =
-    ⊎-elim (λ own. rw (of-its-own s guest f e here unfixed v own, eq-eqb _ _ own))
-    (λ other. rw (of-another s guest f e here unfixed other, ne-eqb _ _ other))
+page-counts s guest f {e} here unfixed v gpa =
+    ⊎-elim (λ own. rw (of-its-own s guest f here unfixed v own, eq-eqb _ _ own))
+    (λ other. rw (of-another s guest f here unfixed other, ne-eqb _ _ other))
     (same-or-not (e .asid) guest)
 
 pub unplaced : (h : Holding) (gpa : ℕ) → h ≢ holds gpa → placeIn h gpa ≡ 0

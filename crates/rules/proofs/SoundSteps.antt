@@ -37,7 +37,7 @@ unfixed-apart :
     (u : State) (f : ℕ) (e : Entry) → entryAt u f ≡ Good e → e .fixed ≡ false
     → (g : ℕ) (d : Entry) → entryAt u g ≡ Good d → d .fixed ≡ true → g ≢ f
 unfixed-apart u f e there unfixed g d here fixed same =
-    false-not-true unfixed (rw (← (same-good u g f d e here there same)) fixed)
+    false-not-true unfixed (rw (← (same-good u g f here there same)) fixed)
 
 module _ {s : State} (sound : Sound s) where
   -- a state with no fixed page that was not there before
@@ -56,7 +56,7 @@ module _ {s : State} (sound : Sound s) where
   -- what stays of the entries and of the words consulted
   put-decodes : {u : State} {f : ℕ} {e : Entry} → Put s u f e → (g : ℕ) → g < N u → entryAt u g ≡ Bad → ⊥
   put-decodes {f = f} p g inside bad =
-      ⊎-elim (λ same. not-bad _ g f _ (p .here) same bad)
+      ⊎-elim (λ same. not-bad _ g f (p .here) same bad)
       (λ other. sound .decodes g (rw (← (p .same-size .same-N)) inside) (sym (p .elsewhere g other) ∙ bad))
       (same-or-not g f)
 
@@ -99,7 +99,7 @@ module _ {s : State} (sound : Sound s) where
       (λ g d guest here fixed.
       let page = put-was e refl g d here fixed in
       ⊎-elim
-      (λ same. rw (same-good s g _ d one page (p .here1) same) (in-leaf guest))
+      (λ same. rw (same-good s g _ page (p .here1) same) (in-leaf guest))
       (λ other. still-unbroken g d guest page fixed (merged-consulted sound g page fixed guest p other))
       (same-or-not g (frameOf hpa1)))
     where
@@ -120,7 +120,7 @@ module _ {s : State} (sound : Sound s) where
       (λ g d guest here fixed.
       let page = put-was e refl g d here fixed in
       ⊎-elim
-      (λ same. rw (same-good s g _ d one page (p .here1) same) (in-leaf guest))
+      (λ same. rw (same-good s g _ page (p .here1) same) (in-leaf guest))
       (λ other. still-unbroken g d guest page fixed
       (unmerged-consulted sound g page fixed guest p other))
       (same-or-not g (frameOf hpa1)))
@@ -153,8 +153,8 @@ module _ {s : State} (sound : Sound s) where
 
       decodes : (g : ℕ) → g < N (unfixing s (frameOf hpa) old gpa) → entryAt (unfixing s (frameOf hpa) old gpa) g ≡ Bad → ⊥
       decodes g inside bad =
-          ⊎-elim (λ same. not-bad _ g _ _ (e .here) same bad)
-          (λ other. ⊎-elim (λ same. not-bad _ g _ _ (e .leaf-here) same bad)
+          ⊎-elim (λ same. not-bad _ g _ (e .here) same bad)
+          (λ other. ⊎-elim (λ same. not-bad _ g _ (e .leaf-here) same bad)
           (λ off. sound .decodes g (rw (← (e .same-size .same-N)) inside) (sym (e .elsewhere g other off) ∙ bad))
           (same-or-not g (leafFrame old)))
           (same-or-not g (frameOf hpa))
@@ -188,7 +188,7 @@ module _ {s : State} (sound : Sound s) where
     other-leaf : (g : ℕ) (d : Entry) → entryAt u g ≡ Good d → d .fixed ≡ true → g ≢ frameOf hpa → leafFrame d ≢ leafFrame new
     unfolding leafFrame entry
     other-leaf g d here fixed other =
-        unused-leaf s leaf g d (p .unused) (two-addresses _ _ _ (p .arguments) .1) (was g d here other) fixed
+        unused-leaf s leaf g (p .unused) (two-addresses _ _ _ (p .arguments) .1) (was g d here other) fixed
 
     new-unbroken : (guest : ℕ) → consulted u new guest ≡ Misshapen → ⊥
     new-unbroken guest =
@@ -202,9 +202,9 @@ module _ {s : State} (sound : Sound s) where
     fixing-alone f g c d hc hd fc fd same =
         ⊎-elim
         (λ at. ⊎-elim (λ too. at ∙ sym too)
-        (λ off. absurd (other-leaf g d hd fd off (sym same ∙ rw (same-good u f _ c new hc (e .put .here) at))))
+        (λ off. absurd (other-leaf g d hd fd off (sym same ∙ rw (same-good u f _ hc (e .put .here) at))))
         (same-or-not g (frameOf hpa)))
-        (λ off. ⊎-elim (λ too. absurd (other-leaf f c hc fc off (same ∙ rw (same-good u g _ d new hd (e .put .here) too))))
+        (λ off. ⊎-elim (λ too. absurd (other-leaf f c hc fc off (same ∙ rw (same-good u g _ hd (e .put .here) too))))
         (λ away. sound .alone f g c d (was f c hc off) (was g d hd away) fc fd same)
         (same-or-not g (frameOf hpa)))
         (same-or-not f (frameOf hpa))
@@ -215,7 +215,7 @@ module _ {s : State} (sound : Sound s) where
           decodes = put-decodes (e .put);
           alone = fixing-alone;
           unbroken = λ g d guest here fixed.
-              ⊎-elim (λ same. rw (same-good u g _ d new here (e .put .here) same) (new-unbroken guest))
+              ⊎-elim (λ same. rw (same-good u g _ here (e .put .here) same) (new-unbroken guest))
               (λ other.
               let page = was g d here other in
               still-unbroken g d guest page fixed (fixed-consulted sound g page fixed guest p))

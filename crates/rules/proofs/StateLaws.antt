@@ -90,25 +90,25 @@ module _ (s : State) (hpa : ℕ) where
 -- ---- entries
 module _ (s : State) (f : ℕ) where
   -- a good entry: the table covers its frame, and it is well formed
-  pub entry-inside : (e : Entry) → entryAt s f ≡ Good e → f < N s
+  pub entry-inside : {e : Entry} → entryAt s f ≡ Good e → f < N s
   unfolding entryAt N
-  entry-inside e h = entry-good (s .table) f e h .0
+  entry-inside h = entry-good (s .table) f _ h .0
 
-  pub entry-fits : (e : Entry) → entryAt s f ≡ Good e → wellFormed (N s) e ≡ true
+  pub entry-fits : {e : Entry} → entryAt s f ≡ Good e → wellFormed (N s) e ≡ true
   unfolding entryAt N
-  entry-fits e h = entry-good (s .table) f e h .1
+  entry-fits h = entry-good (s .table) f _ h .1
 
-  pub entry-tells : (e : Entry) → entryAt s f ≡ Good e → Tells (N s) e
-  entry-tells e h = tells (N s) e (entry-fits e h)
+  pub entry-tells : {e : Entry} → entryAt s f ≡ Good e → Tells (N s) e
+  entry-tells h = tells (N s) _ (entry-fits h)
 
   pub entry-after-entry : (e : Entry) → f < N s → wellFormed (N s) e ≡ true → entryAt (withEntry s f e) f ≡ Good e
   unfolding entryAt withEntry N
   entry-after-entry e h w = entry-put-same (s .table) f e h w
 
   -- the entry that stands there, put again
-  pub same-entry : (e : Entry) → entryAt s f ≡ Good e → withEntry s f e ≡ s
+  pub same-entry : {e : Entry} → entryAt s f ≡ Good e → withEntry s f e ≡ s
   unfolding entryAt withEntry
-  same-entry e h = rw (put-same (s .table) f e h)
+  same-entry h = rw (put-same (s .table) f _ h)
 
   pub entry-elsewhere : (e : Entry) (g : ℕ) → g ≢ f → entryAt (withEntry s f e) g ≡ entryAt s g
   unfolding entryAt withEntry
@@ -123,11 +123,11 @@ module _ (s : State) (f : ℕ) where
   entry-after-frame words g = refl
 
 -- two readings of one frame are one entry, and not both good and bad
-pub same-good : (s : State) (g f : ℕ) (d e : Entry) → entryAt s g ≡ Good d → entryAt s f ≡ Good e → g ≡ f → d ≡ e
-same-good s g f d e h k same = cc
+pub same-good : (s : State) (g f : ℕ) {d e : Entry} → entryAt s g ≡ Good d → entryAt s f ≡ Good e → g ≡ f → d ≡ e
+same-good s g f h k same = cc
 
-pub not-bad : (s : State) (g f : ℕ) (d : Entry) → entryAt s f ≡ Good d → g ≡ f → entryAt s g ≡ Bad → ⊥
-not-bad s g f d h same k = absurd (false≢true (cc))
+pub not-bad : (s : State) (g f : ℕ) {d : Entry} → entryAt s f ≡ Good d → g ≡ f → entryAt s g ≡ Bad → ⊥
+not-bad s g f h same k = absurd (false≢true (cc))
 
 -- "Empty table: all words zero": every frame is SHARED
 pub entry-of-empty :

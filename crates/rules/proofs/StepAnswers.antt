@@ -48,7 +48,7 @@ closed-answers old t =
 accepted-answers : {s after : State} {c : Call} {told : Told} → HoldsWords s → Accepted s c told after → MayAnswer c told
 unfolding updateAnswer validateAnswer
 accepted-answers words (by-update {old = old} p) =
-    pick-either (MayAnswer _) _ _ _ (λ v. closed-answers old (entry-tells _ _ old (p .here))) (λ v. is-none)
+    pick-either (MayAnswer _) _ _ _ (λ v. closed-answers old (entry-tells _ _ (p .here))) (λ v. is-none)
 accepted-answers words (by-validate p) = pick-either (MayAnswer _) _ _ _ (λ v. is-already) (λ v. is-opened)
 accepted-answers words (by-fix p) = is-fixed
 accepted-answers words (by-merge p) = is-merged

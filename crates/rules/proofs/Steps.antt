@@ -73,7 +73,7 @@ answered-already old = pick-either (λ told. told ≡ already → old .validated
 pub validated-again :
     (s : State) (frame : ℕ) (old : Entry) → entryAt s frame ≡ Good old → old .validated ≡ true → validating s frame old ≡ s
 unfolding validating
-validated-again s frame old here v = rw (validated-is old v) (same-entry s frame old here)
+validated-again s frame old here v = rw (validated-is old v) (same-entry s frame here)
 
 pub already-keeps :
     (s : State) (caller gpa hpa kind : ℕ) → pvalidate s caller gpa hpa kind .told ≡ already → pvalidate s caller gpa hpa kind .after ≡ s
