@@ -22,9 +22,9 @@ use entries::entry::Entry;
 use entries::entry::SHARED;
 use entries::entry::frame_of;
 use entries::leaf::LeafWord;
-use needs::gates::access_type_met;
-use needs::gates::fixed_access_met;
-use needs::gates::unfixed_access_met;
+use gates::access_type_met;
+use gates::fixed_access_met;
+use gates::unfixed_access_met;
 use rmp::table;
 
 // Whether an access writes.

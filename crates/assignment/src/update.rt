@@ -16,7 +16,7 @@ use checks::passed::Named;
 use entries::entry::Entry;
 use entries::entry::frame_of;
 use frames::frame;
-use needs::gates::update_needs_met;
+use gates::update_needs_met;
 use rmp::table;
 
 // The host gives the frame at `hpa` to the guest `asid` at its address `gpa`, as a page of the type `kind`, or takes it back.

@@ -13,7 +13,7 @@ use checks::named;
 use checks::passed::Named;
 use entries::entry::Entry;
 use entries::entry::frame_of;
-use needs::gates::validate_needs_met;
+use gates::validate_needs_met;
 use rmp::table;
 
 // The guest `caller` accepts the frame at `hpa` as its page at `gpa`.

@@ -24,7 +24,7 @@ use entries::entry::Entry;
 use entries::entry::frame_of;
 use entries::leaf::present_at;
 use frames::frame;
-use needs::gates::fix_needs_met;
+use gates::fix_needs_met;
 use rmp::table;
 
 // The page at `hpa` is fixed, with the LEAF frame at `leaf` as its leaf: its owner is the first guest in it.

@@ -23,7 +23,7 @@ use checks::passed::Place;
 use entries::entry::Entry;
 use entries::entry::frame_of;
 use frames::frame;
-use needs::gates::unfix_needs_met;
+use gates::unfix_needs_met;
 use rmp::table;
 
 // The page at `hpa` is its owner's again, at the address that the leaf has for it, and the leaf becomes SHARED.

@@ -22,7 +22,7 @@ use entries::entry::Entry;
 use entries::entry::frame_of;
 use entries::leaf::present_at;
 use frames::frame;
-use needs::gates::merge_needs_met;
+use gates::merge_needs_met;
 use rmp::table;
 
 // The page at `hpa2` moves into the fixed page at `hpa1`, and its frame becomes SHARED.

@@ -23,7 +23,7 @@ use checks::passed::Place;
 use entries::entry::Entry;
 use entries::entry::frame_of;
 use frames::frame;
-use needs::gates::unmerge_needs_met;
+use gates::unmerge_needs_met;
 use rmp::table;
 
 // The guest `asid` moves out of the fixed page at `hpa1` into the SHARED frame at `hpa2`.

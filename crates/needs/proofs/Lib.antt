@@ -1,2 +1,3 @@
--- Laws of the table's rows.
+-- That the rows of the table are the rules'.
 pub mod AccessNeeds
+pub mod Rows

@@ -1,5 +1,5 @@
 -- What a row of the table asks, as a chain of checks: types before flags, FIXED before VALIDATED, the first named frame before the second.
--- Only promises of private functions name these. The public gates promise the rules' own chains.
+-- Of the promises only those of private functions of `gates` name these. The public ones promise the rules' own chains.
 use mathlib.Core.Bool.{Bool}
 use Prim.Native.Nat.{ℕ}
 use lib.Dec.{eqb}
@@ -8,8 +8,8 @@ use Rattle.entries.specs.declared.entry.Entry.{Entry}
 use Rattle.rules.specs.Answers.{Verdict, unless}
 use Rattle.rules.specs.Refusals.{TYPE, NOT-VALIDATED, FIXED, NOT-FIXED}
 use Rattle.needs.specs.Needs.{SET, needsOf, kindMet, flagMet}
-use Rattle.needs.specs.declared.table.Need.{Need}
-use Rattle.needs.specs.declared.table.Row.{Row}
+use Rattle.needs.specs.declared.need.Need.{Need}
+use Rattle.needs.specs.declared.need.Row.{Row}
 
 -- 11 where FIXED must be set, else 10
 unfoldable pub fixedRefusal : ℕ → ℕ

@@ -1,5 +1,5 @@
 -- 01, "The calls": "The needed type and flags of each named frame, by instruction, stand in one constant table". This is the table, row
--- for row. That each row says what its rule says, cell by cell, is what the promises of the gates in src/gates.rt come to.
+-- for row. That each row says what its rule says, cell by cell, is shown in proofs/Rows.antt and AccessNeeds.antt.
 use mathlib.Core.Bool.{Bool, true, not}
 use mathlib.Core.List.{List, [], _∷_}
 use Prim.Native.Nat.{ℕ}
@@ -7,8 +7,8 @@ use lib.Dec.{eqb}
 use lib.ListN.{getD}
 use Rattle.words.specs.Choice.{pick}
 use Rattle.entries.specs.Entry.{SHARED, MERGEABLE, LEAF}
-use Rattle.needs.specs.declared.table.Need.{Need}
-use Rattle.needs.specs.declared.table.Row.{Row}
+use Rattle.needs.specs.declared.need.Need.{Need}
+use Rattle.needs.specs.declared.need.Row.{Row}
 
 -- a type that is needed is one of the four, or any but LEAF, or the one that the call names, or none: there is no such frame
 abbrev pub NOT-LEAF : ℕ

@@ -1,3 +1,2 @@
-// What each instruction needs of the frames that it names: the constant table of types and flags, and the checks that read it.
-pub mod gates;
-pub mod table;
+// What each instruction needs of the frames that it names: when a need is met. The table of needs is a definition here.
+pub mod need;
