@@ -7,7 +7,8 @@ use lib.ListN.{length, getD}
 use lib.Seq.{paste}
 use Rattle.words.specs.Choice.{pick}
 
--- `target` with as many words of `source` at its front as it has room for
+-- `target` with as many words of `source` at its front as it has room for. (`paste d at s n`, of the library, is `d` with the first n of `s`
+-- laid over it from the place `at` on.)
 unfoldable pub copied : List ℕ → List ℕ → List ℕ
 copied target source = paste target 0 source (min (length target) (length source))
 
