@@ -1,4 +1,4 @@
-# Turns the examples of docs/CALLS.md, which are one run from an empty table, into a script and what it must print:
+# Turns the examples of docs/CALLS.md, which are one run from an empty table, into a script and what it must print, as far as a script goes:
 #     awk -v script=FILE -v output=FILE -f tests/calls.awk docs/CALLS.md
 BEGIN {
     letters = "rmpupdate U pvalidate V pfix F pmerge M punmerge D punfix X read R write W census C"
@@ -27,6 +27,9 @@ function answered(answer) {
     else answer = "ok " tolower(answer)
     print letter[name] " " answer > output
 }
+
+# the script has no letters for calls on whole pages, which stand last
+/^[0-9]+ +page_/ { exit }
 
 # a row of a table: number, call, answer, reason
 /^\| [0-9]+ \| `[a-z]+\(&/ { split($0, column, "|"); call = column[3]; gsub(/[ `]*$|^[ `]*/, "", call); asked(call); answered(column[4]); next }

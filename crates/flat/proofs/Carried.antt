@@ -1,5 +1,5 @@
 -- What every exported function does: a call's promise, carried through the flattening of its answer. The flattening loses nothing, so what
--- is returned and left makes a call of a run.
+-- is returned and left makes a request of a run.
 -- Assumes nothing.
 use mathlib.Core.Path.{_≡_, refl}
 use mathlib.Core.List.{List}
@@ -7,6 +7,7 @@ use Prim.Native.Nat.{ℕ}
 use Rattle.words.specs.Choice.{pick}
 use Rattle.rules.specs.Answers.{Told, refused, done, none, closed, opened, already, word, count, Outcome, outcome}
 use Rattle.rules.specs.State.{state}
+use Rattle.requests.specs.Requests.{telling}
 use Rattle.flat.specs.Flat.{flat, returned, flattened, says, FlatSays, said}
 use Rattle.flat.specs.declared.Flat.{Flat}
 
@@ -23,6 +24,6 @@ flat-says (count places) = refl
 
 pub carried :
     {told : Told} {r : Flat} {table memory : List ℕ} {o : Outcome} → outcome told (state table memory) ≡ o → r ≡ flat told
-    → (returned r table memory ≡ flattened o) × (said r table memory ≡ o)
+    → (returned r table memory ≡ flattened o) × (telling (said r table memory) ≡ telling o)
 unfolding flattened
-carried given flat-so = (rw (← given, flat-so), rw (flat-so, flat-says) given)
+carried given flat-so = (rw (← given, flat-so), rw (← given, flat-so, flat-says))

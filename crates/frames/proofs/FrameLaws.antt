@@ -2,29 +2,25 @@
 -- these laws, and need not open the definitions. Each holds because a frame's words are a run of memory, and two frames' runs are apart.
 -- Assumes nothing.
 use mathlib.Core.Path.{_≡_, refl, sym, _∙_}
-use mathlib.Core.List.{List, append-assoc}
+use mathlib.Core.List.{List, [], _∷_, append-assoc}
 use mathlib.Core.Logic.{_≢_, ⊎-elim}
-use Prim.Native.Nat.{ℕ, zero, suc, min, _+_, _-_, _*_, _≤_, _<_}
+use Prim.Native.Nat.{ℕ, zero, suc, _+_, _-_, _*_, _≤_, _<_}
 use native.Mathlib.Omega.{arith}
 use lib.ListN.{length, getD, set, take, drop, length-set, length-drop, length-take, length-replicate, getD-replicate, List·getD-eq-default}
-use lib.Seq.{paste, getD-set-same, getD-set-other, getD-take, getD-drop, length-paste, take-all}
+use lib.Seq.{paste, sets, sets-eq, getD-set-same, getD-set-other, getD-take, getD-drop, length-paste, take-all}
 use borrow.Author.Tests.{lt-ltb, le-ltb, eq-eqb, ne-eqb}
 use borrow.Rule.Slice.PartMut.{putMid, post-is}
 use Rattle.words.specs.Choice.{_and_}
-use Rattle.words.specs.Run.{differing, odd}
+use Rattle.words.specs.Run.{copied, differing, odd}
 use Rattle.words.proofs.ChoiceLaws.{lt-or-le, same-or-not, pick-true, pick-false, and-not}
 use Rattle.words.proofs.ChoiceLaws.{bounds-kept, first-not, second-not, bounds-either}
-use Rattle.words.proofs.RunLaws.{paste-there, paste-before, paste-after, none-differ}
+use Rattle.words.proofs.RunLaws.{paste-there, paste-before, paste-after, copied-whole, none-differ}
 use Rattle.frames.specs.Frame.{frameCount, isFramed, wordIn, frameIn, zeros, putWord, putFrame, differingIn, oddIn}
 
--- a frame that memory has is a whole run of it, and one that memory does not have is not
+-- a frame that memory has is a whole run of it
 frame-whole : (m : List ℕ) (f : ℕ) → f < frameCount m → 512 * f + 512 ≤ length m
 unfolding frameCount
 frame-whole m f h = omega arith
-
-frame-not : (m : List ℕ) (f : ℕ) → frameCount m ≤ f → length m < 512 * f + 512
-unfolding frameCount
-frame-not m f h = omega arith
 
 -- the word of a frame
 module _ (m : List ℕ) (f i : ℕ) where
@@ -40,25 +36,27 @@ module _ (m : List ℕ) (f i : ℕ) where
   unfolding wordIn
   word-past = second-not f (frameCount m) i 512 _ _
 
--- the words of a frame, all at once: 512 where memory has it, and only there
+-- the words of a frame, all at once: 512 where memory has it, and none elsewhere
 module _ (m : List ℕ) (f : ℕ) where
-  length-part : length (frameIn m f) ≡ min 512 (length m - 512 * f)
+  part-is : f < frameCount m → frameIn m f ≡ take 512 (drop (512 * f) m)
   unfolding frameIn
-  length-part = simp (length-take, length-drop)
+  part-is h = pick-true _ _ (lt-ltb _ _ h)
+
+  pub part-outside : frameCount m ≤ f → frameIn m f ≡ []
+  unfolding frameIn
+  part-outside h = pick-false _ _ (le-ltb _ _ h)
 
   pub frame-long : f < frameCount m → length (frameIn m f) ≡ 512
-  frame-long h = length-part ∙ omega (arith, frame-whole m f h)
+  frame-long h = rw (part-is h, length-take, length-drop) (omega (arith, frame-whole m f h))
 
   pub frame-had : length (frameIn m f) ≡ 512 → f < frameCount m
-  frame-had e = ⊎-elim (λ h. h) (λ h. absurd (omega (arith, frame-not m f h, length-part))) (lt-or-le f (frameCount m))
-
-  frame-at : (i : ℕ) → i < 512 → getD (frameIn m f) i 0 ≡ getD m (512 * f + i) 0
-  unfolding frameIn
-  frame-at i l = getD-take 512 (drop (512 * f) m) i 0 l ∙ getD-drop (512 * f) m i 0
+  frame-had e =
+      ⊎-elim (λ h. h) (λ h. let none : length (frameIn m f) ≡ 0 = rw (part-outside h) in absurd (omega arith)) (lt-or-le f (frameCount m))
 
   pub frame-word : (i : ℕ) → f < frameCount m → getD (frameIn m f) i 0 ≡ wordIn m f i
   frame-word i h =
-      ⊎-elim (λ l. frame-at i l ∙ sym (word-is m f i h l))
+      ⊎-elim
+      (λ l. rw (part-is h) (getD-take 512 (drop (512 * f) m) i 0 l ∙ getD-drop (512 * f) m i 0) ∙ sym (word-is m f i h l))
       (λ l. List·getD-eq-default (frameIn m f) 0 (rw (frame-long h) l) ∙ sym (word-past m f i l))
       (lt-or-le i 512)
 
@@ -203,15 +201,22 @@ copied-outside m f g h = frame-unlike m g (frameIn m f) (λ e. absurd (omega (ar
 
 -- a frame that is lent, and one that comes back as `run`
 module _ (m : List ℕ) (f : ℕ) where
-  pub lent-frame : take (512 * f + 512 - 512 * f) (drop (512 * f) m) ≡ frameIn m f
-  unfolding frameIn
-  lent-frame = let all : 512 * f + 512 - 512 * f ≡ 512 = omega arith in rw all
+  pub lent-frame : f < frameCount m → take (512 * f + 512 - 512 * f) (drop (512 * f) m) ≡ frameIn m f
+  lent-frame h = let all : 512 * f + 512 - 512 * f ≡ 512 = omega arith in rw (all, part-is m f h)
 
   pub frame-back :
       (run : List ℕ) → f < frameCount m → length run ≡ 512 → putMid (512 * f) (512 * f + 512 - 512 * f) m run ≡ putFrame m f run
   frame-back run h e =
       let behind = post-is (512 * f) (512 * f + 512) m (omega arith) in
       rw (frame-put m f run h e, behind, take-all 512 run (omega arith), append-assoc)
+
+  -- 512 words laid over it
+  pub frame-laid :
+      (run last : List ℕ) → f < frameCount m → length run ≡ 512
+      → last ≡ copied (take (512 * f + 512 - 512 * f) (drop (512 * f) m)) run
+      → putMid (512 * f) (512 * f + 512 - 512 * f) m last ≡ putFrame m f run
+  frame-laid run last h e laid =
+      rw (laid, lent-frame h, copied-whole (frameIn m f) run (frame-long m f h ∙ sym e)) (frame-back run h e)
 
 -- two frames compared
 module _ (m : List ℕ) (f g : ℕ) where
@@ -246,3 +251,25 @@ module _ (m : List ℕ) (f : ℕ) where
   unfolding oddIn
   odd-outside h zero = refl
   odd-outside h (suc n) = rw (odd-outside h n, word-outside m f n h)
+
+-- words put into a frame one by one, from a place on
+unfoldable pub putWords : List ℕ → ℕ → ℕ → List ℕ → List ℕ
+putWords m f i [] = m
+putWords m f i (v ∷ rest) = putWords (putWord m f i v) f (suc i) rest
+
+words-set :
+    (m : List ℕ) (f i : ℕ) (run : List ℕ) → f < frameCount m → i + length run ≤ 512 → putWords m f i run ≡ sets m (512 * f + i) run
+unfolding putWords
+words-set m f i [] h fits = refl
+words-set m f i (v ∷ rest) h fits =
+    let next : 512 * f + suc i ≡ suc (512 * f + i) = omega arith in
+    words-set (putWord m f i v) f (suc i) rest (rw (count-putWord m f i v) h) (omega arith)
+    ∙ rw (next, put-is m f i v h (omega arith))
+
+-- 512 of them are the frame put whole
+pub words-are-frame : (m : List ℕ) (f : ℕ) (run : List ℕ) → f < frameCount m → length run ≡ 512 → putWords m f 0 run ≡ putFrame m f run
+words-are-frame m f run h e =
+    let start : 512 * f + 0 ≡ 512 * f = omega arith in
+    words-set m f 0 run h (omega arith)
+    ∙ rw (start, frame-put m f run h e, take-all 512 run (omega arith))
+    (sets-eq run m (512 * f) (omega (arith, frame-whole m f h)) ∙ rw e)

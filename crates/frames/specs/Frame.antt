@@ -1,7 +1,7 @@
 -- 01, "Sizes and layout": memory is a run of 64-bit words, 512 to a frame. In a frame that memory does not have whole, and at an index
 -- above 511, a word reads as zero and a change changes nothing.
 use mathlib.Core.Bool.{Bool}
-use mathlib.Core.List.{List}
+use mathlib.Core.List.{List, []}
 use Prim.Native.Nat.{ℕ, zero, suc, _+_, _*_, _/_, _%_}
 use lib.Dec.{ltb, eqb}
 use lib.ListN.{length, getD, set, take, drop, replicate}
@@ -22,9 +22,9 @@ unfoldable pub wordIn : List ℕ → ℕ → ℕ → ℕ
 wordIn memory frame index =
     pick (ltb frame (frameCount memory)) (pick (ltb index 512) (getD memory (512 * frame + index) 0) 0) 0
 
--- all words of a frame: 512, or fewer where memory does not have it whole
+-- all 512 words of a frame, and no words where memory does not have it whole
 unfoldable pub frameIn : List ℕ → ℕ → List ℕ
-frameIn memory frame = take 512 (drop (512 * frame) memory)
+frameIn memory frame = pick (ltb frame (frameCount memory)) (take 512 (drop (512 * frame) memory)) []
 
 -- the words of a frame that is zeroed
 unfoldable pub zeros : List ℕ

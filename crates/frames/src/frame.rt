@@ -30,6 +30,17 @@ pub fn word(memory: &[u64], frame: usize, index: usize) -> u64
     0
 }
 
+// The words of a frame, where they stand: a part of memory, which is empty where memory does not have the frame.
+pub fn part(memory: &[u64], frame: usize) -> &[u64]
+    ensures { λ r. ⌜ now r ≡ frameIn (now (memory .entry)) frame ⌝ }
+{
+    if frame < memory.len() / 512 {
+        let start = 512 * frame;
+        return &memory[start..start + 512];
+    }
+    &memory[..0]
+}
+
 // A word of a frame becomes `value`.
 pub fn put_word(memory: &mut [u64], frame: usize, index: usize, value: u64)
     ensures { λ _. ⌜ now (memory .exit) ≡ putWord (now (memory .entry)) frame index value ⌝ }
@@ -52,7 +63,23 @@ pub fn zero(memory: &mut [u64], frame: usize)
     }
 }
 
-// The words of frame `from` stand in frame `to` too. They go by way of a local array, so that the copy compiles to one memmove.
+// The words of a frame become `words`, which must be 512: any other run changes nothing. They go by way of a local array, so that the copy
+// compiles to one memmove.
+pub fn put(memory: &mut [u64], frame: usize, words: &[u64])
+    ensures { λ _. ⌜ now (memory .exit) ≡ putFrame (now (memory .entry)) frame (now (words .entry)) ⌝ }
+{
+    if frame < memory.len() / 512 {
+        if words.len() == 512 {
+            let mut held = [0u64; 512];
+            run::copy(&mut held, words);
+            let start = 512 * frame;
+            let end = start + 512;
+            run::copy(&mut memory[start..end], &held);
+        }
+    }
+}
+
+// The words of frame `from` stand in frame `to` too, by way of a local array as in `put`.
 pub fn copy(memory: &mut [u64], from: usize, to: usize)
     ensures { λ _. ⌜ now (memory .exit) ≡ putFrame (now (memory .entry)) to (frameIn (now (memory .entry)) from) ⌝ }
 {

@@ -1,7 +1,6 @@
 // The monitor, whole: the nine calls on a lent table and a lent memory, and `step`, which makes any of them. Nothing is asked of a
 // caller: every call checks its arguments, the table and memory itself, and answers.
-ghost use Rattle.rules.specs.History.{made};
-ghost use Rattle.rules.specs.Run.{Promised};
+ghost use Rattle.rules.specs.History.{made, Promised};
 ghost use Rattle.rules.specs.State.{state};
 ghost use Rattle.checks.specs.Answer.{gave};
 ghost use Rattle.monitor.specs.Call.{called};
@@ -39,8 +38,8 @@ pub enum Call {
     Census(u64),
 }
 
-// Makes the call by its function. `Promised` is the equation: answer, table and memory are those of the rules' `step`; what the rules'
-// `specs/Run` says of runs, demand 3 among it, is said of this.
+// Makes the call by its function. `Promised` is the equation: answer, table and memory are those of the rules' `step`. So it is a request
+// of a run (`CallIsRuled` of `requests`), and what is said of runs there, demand 3 among it, is said of this.
 pub fn step(table: &mut [u64], memory: &mut [u64], call: Call) -> Answer
     ensures { λ r. ⌜ Promised (made (called call) (state (now (table .entry)) (now (memory .entry)))
         (gave r (now (table .exit)) (now (memory .exit)))) ⌝ }

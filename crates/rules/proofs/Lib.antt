@@ -7,7 +7,6 @@ pub mod CensusLaws
 pub mod Chain
 pub mod Changes
 pub mod Consulted
-pub mod Corollaries
 pub mod Effects
 pub mod History
 pub mod HistoryFrom
@@ -20,7 +19,6 @@ pub mod Passed
 pub mod PlaceChanges
 pub mod PlaceLaws
 pub mod Reason
-pub mod Run
 pub mod Sound
 pub mod SoundSteps
 pub mod StateLaws

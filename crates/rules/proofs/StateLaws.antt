@@ -4,22 +4,22 @@
 -- Assumes nothing.
 use mathlib.Core.Path.{_≡_, refl, _∙_}
 use mathlib.Core.Bool.{true, false, false≢true}
-use mathlib.Core.List.{List}
+use mathlib.Core.List.{List, [], _∷_}
 use mathlib.Core.Logic.{_≢_}
-use Prim.Native.Nat.{ℕ, _≤_, _<_}
+use Prim.Native.Nat.{ℕ, suc, _≤_, _<_}
 use lib.ListN.{length, getD}
 use borrow.Author.Tests.{leb-true, ltb-true, ltb-false}
 use Rattle.words.proofs.ChoiceLaws.{and-left, and-right}
 use Rattle.frames.specs.Frame.{zeros}
 use Rattle.frames.proofs.FrameLaws.{count-putWord, framed-putWord, word-put-same, word-put-other-frame, word-put-other-index}
 use Rattle.frames.proofs.FrameLaws.{count-putFrame, framed-putFrame, word-frame-same, word-frame-other, word-zeroed, word-copied}
-use Rattle.frames.proofs.FrameLaws.{same-words}
+use Rattle.frames.proofs.FrameLaws.{frame-long, frame-word, same-words, putWords, words-are-frame}
 use Rattle.entries.specs.Entry.{frameOf, zeroEntry, wellFormed}
 use Rattle.entries.specs.declared.entry.Entry.{Entry}
 use Rattle.entries.specs.declared.entry.Decoded.the-variants.{Good, Bad}
 use Rattle.entries.proofs.Tells.{Tells, tells}
 use Rattle.rmp.proofs.TableLaws.{covered-put, whole-put, entry-put-same, entry-put-other, put-same, entry-good, entry-empty}
-use Rattle.rules.specs.State.{State, emptyTable, N, M, sized, covers, entryAt, wordAt, frameAt, differingAt, withEntry, withWord}
+use Rattle.rules.specs.State.{State, state, emptyTable, N, M, sized, covers, entryAt, wordAt, frameAt, differingAt, withEntry, withWord}
 use Rattle.rules.specs.State.{withFrame}
 
 -- ---- sizes
@@ -170,7 +170,26 @@ module _ (s : State) (f : ℕ) where
   unfolding wordAt withFrame frameAt M
   word-after-copy from i h k = word-copied (s .memory) from f i h k
 
+  -- all words of a frame that memory has
+  pub frame-has : f < M s → (length (frameAt s f) ≡ 512) × ((i : ℕ) → getD (frameAt s f) i 0 ≡ wordAt s f i)
+  unfolding frameAt wordAt M
+  frame-has h = (frame-long (s .memory) f h, λ i. frame-word (s .memory) f i h)
+
   -- two frames with no differing word
   pub equal-words : (g : ℕ) → differingAt s f g ≡ 0 → f < M s → g < M s → (i : ℕ) → wordAt s f i ≡ wordAt s g i
   unfolding wordAt differingAt M
   equal-words g e h k i = same-words (s .memory) f g e h k i
+
+-- words put into a frame one by one, from a place on: 512 of them are the frame put whole
+unfoldable pub withWords : State → ℕ → ℕ → List ℕ → State
+withWords s f i [] = s
+withWords s f i (v ∷ rest) = withWords (withWord s f i v) f (suc i) rest
+
+words-in-memory : (s : State) (f i : ℕ) (words : List ℕ) → withWords s f i words ≡ state (s .table) (putWords (s .memory) f i words)
+unfolding withWords putWords withWord
+words-in-memory s f i [] = refl
+words-in-memory s f i (v ∷ rest) = words-in-memory (withWord s f i v) f (suc i) rest
+
+pub frame-by-words : (s : State) (f : ℕ) (words : List ℕ) → f < M s → length words ≡ 512 → withWords s f 0 words ≡ withFrame s f words
+unfolding withFrame M
+frame-by-words s f words h e = words-in-memory s f 0 words ∙ rw (words-are-frame (s .memory) f words h e)

@@ -6,7 +6,7 @@ use Prim.Native.Nat.{ℕ, _+_, _≤_}
 use lib.Dec.{eqb}
 use Rattle.words.specs.Choice.{pick, _and_}
 use Rattle.entries.specs.Entry.{frameOf, isGuest, isOwned, bit}
-use Rattle.rules.specs.Answers.{Told, refused, done, none, closed, opened, already, word, count, Outcome}
+use Rattle.rules.specs.Answers.{Told, refused, done, none, closed, opened, already, word, count, Outcome, outcome}
 use Rattle.rules.specs.Calls.{Call, RMPUPDATE, PVALIDATE, PFIX, PMERGE, PUNMERGE, PUNFIX, READ, WRITE, CENSUS, step}
 use Rattle.rules.specs.Census.{places}
 use Rattle.rules.specs.State.{State, emptyTable, wordAt}
@@ -20,6 +20,10 @@ pub record Made : Type 0 where
 
 abbrev pub made : Call → State → Outcome → Made
 made call s o = record { call = call; got = s; told = o .told; left = o .after }
+
+-- what is promised of a call as it was made: that its answer, and table and memory as it left them, are the rules'
+abbrev pub Promised : Made → Type 0
+Promised m = outcome (m .told) (m .left) ≡ step (m .got) (m .call)
 
 -- "Each call gets both as the call before left them": a list of calls, as they were made
 unfoldable pub history : State → List Call → List Made

@@ -10,6 +10,5 @@ pub mod History
 pub mod Leaves
 pub mod Merging
 pub mod Refusals
-pub mod Run
 pub mod State
 pub mod Words

@@ -83,7 +83,7 @@ pub fn census(table: &[u64], memory: &[u64], asid: u64) -> Answer {
 }
 
 /// The arguments of READ and WRITE without the value.
-struct Access {
+pub(crate) struct Access {
     caller: u64,
     gpa: u64,
     hpa: u64,
@@ -94,9 +94,23 @@ struct Access {
 }
 
 impl Access {
+    /// The SHARED access to word 0 of a page.
+    #[inline]
+    pub(crate) fn shared_page(caller: u64, gpa: u64, hpa: u64, writes: bool) -> Self {
+        Self {
+            caller,
+            gpa,
+            hpa,
+            gtype: Kind::Shared as u64,
+            ntype: Kind::Shared as u64,
+            index: 0,
+            writes,
+        }
+    }
+
     /// The checks of an access; gives the position in memory of its word.
     #[inline(always)] // keeps the arguments in registers
-    fn check(&self, table: &[u64], memory: &[u64]) -> Result<usize, Refusal> {
+    pub(crate) fn check(&self, table: &[u64], memory: &[u64]) -> Result<usize, Refusal> {
         geometry(table, memory)?;
         require(is_asid(self.caller), Refusal::Argument)?;
         require(

@@ -3,7 +3,7 @@
 
 use std::fmt;
 
-use crate::{access, rules};
+use crate::{access, pages, rules};
 
 /// The refusals with their numbers.
 #[derive(Clone, Copy, PartialEq, Eq, Debug)]
@@ -143,6 +143,42 @@ impl fmt::Display for Call {
                 write!(f, " {caller:x} {gpa:x} {hpa:x} {gtype:x} {ntype:x} {index:x} {value:x}"),
             Self::Census { asid } =>
                 write!(f, " {asid:x}"),
+        }
+    }
+}
+
+/// A call that a list of demand 3 may hold: one of the nine, or one of the
+/// three on whole pages (document 02, Q-1).
+#[derive(Clone, PartialEq, Eq, Debug)]
+#[rustfmt::skip]
+pub enum Request {
+    Call(Call),
+    PageRead { caller: u64, gpa: u64, hpa: u64 },
+    PageWrite { caller: u64, gpa: u64, hpa: u64, words: Vec<u64> },
+    PageCheck { caller: u64, gpa: u64, hpa: u64 },
+}
+
+/// What a request is answered.
+#[derive(Clone, Copy, PartialEq, Eq, Debug)]
+pub enum Reply<'m> {
+    Answer(Answer),
+    /// What `page_read` handed back.
+    Page(&'m [u64]),
+}
+
+impl Request {
+    /// Makes the request on this table and memory.
+    #[rustfmt::skip]
+    pub fn make<'m>(&self, table: &mut [u64], memory: &'m mut [u64]) -> Reply<'m> {
+        match *self {
+            Self::Call(call) =>
+                Reply::Answer(call.make(table, memory)),
+            Self::PageRead { caller, gpa, hpa } =>
+                Reply::Page(pages::page_read(table, memory, caller, gpa, hpa)),
+            Self::PageWrite { caller, gpa, hpa, ref words } =>
+                Reply::Answer(pages::page_write(table, memory, caller, gpa, hpa, words)),
+            Self::PageCheck { caller, gpa, hpa } =>
+                Reply::Answer(pages::page_check(table, memory, caller, gpa, hpa)),
         }
     }
 }

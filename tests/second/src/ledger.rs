@@ -3,7 +3,7 @@
 
 use std::collections::BTreeMap;
 
-use crate::call::{Answer, Call};
+use crate::call::{Answer, Call, Reply, Request};
 use crate::layout::{Entry, Kind, LeafWord, ENTRY_WORDS, FRAME_BYTES, FRAME_WORDS};
 
 /// A guest and one of its page addresses: ASID, GPA.
@@ -47,6 +47,21 @@ impl Ledger {
     ) -> Result<(), String> {
         self.enter(call, answer, memory_before)
             .map_err(|broken| format!("`{call}` answered {answer:?}: {broken}"))
+    }
+
+    /// Notes a request, as `note` does a call. One for a whole page is SHARED,
+    /// so it enters no account.
+    pub fn note_request(
+        &mut self,
+        request: &Request,
+        reply: Reply,
+        memory_before: &[u64],
+    ) -> Result<(), String> {
+        match (request, reply) {
+            (Request::Call(call), Reply::Answer(answer)) => self.note(call, answer, memory_before),
+            _ if page_fits(request, reply) => Ok(()),
+            _ => Err(format!("{request:x?} answered {reply:x?}: no such answer")),
+        }
     }
 
     #[rustfmt::skip]
@@ -159,6 +174,19 @@ fn fits(call: &Call, answer: Answer) -> bool {
     }
 }
 
+/// Whether a request for a whole page may give this reply at all. A SHARED
+/// access is open to every caller, so it is never refused with 3.
+fn page_fits(request: &Request, reply: Reply) -> bool {
+    match (request, reply) {
+        (Request::PageRead { .. }, Reply::Page(page)) => matches!(page.len(), 0 | FRAME_WORDS),
+        (
+            Request::PageWrite { .. } | Request::PageCheck { .. },
+            Reply::Answer(Answer::Done | Answer::Refused(1 | 2 | 4..=6)),
+        ) => true,
+        _ => false,
+    }
+}
+
 /// The number of places of every guest and address that has one. An error if
 /// an entry or a leaf is broken, as no history makes one.
 fn count_places(table: &[u64], memory: &[u64]) -> Result<BTreeMap<Holding, u64>, String> {
@@ -224,10 +252,13 @@ mod tests {
         }
 
         fn make(&mut self, line: &str) -> Result<(), String> {
-            let call = parse(line.as_bytes()).unwrap();
+            self.request(&Request::Call(parse(line.as_bytes()).unwrap()))
+        }
+
+        fn request(&mut self, request: &Request) -> Result<(), String> {
             let before = self.memory;
-            let answer = call.make(&mut self.table, &mut self.memory);
-            self.ledger.note(&call, answer, &before)?;
+            let reply = request.make(&mut self.table, &mut self.memory);
+            self.ledger.note_request(request, reply, &before)?;
             self.ledger.places(&self.table, &self.memory)
         }
 
@@ -340,5 +371,95 @@ mod tests {
         assert!(run.claim("X 0 1000", Answer::Word(0)).is_err());
         assert!(run.claim("X 0 1000", Answer::Refused(18)).is_err());
         assert!(run.claim("X 0 1000", Answer::Refused(0)).is_err());
+    }
+
+    /// The three requests for a whole page by the host and two guests.
+    fn page_requests(gpa: u64, hpa: u64, word: u64) -> impl Iterator<Item = Request> {
+        [0, 7, 9].into_iter().flat_map(move |caller| {
+            let words = vec![word; FRAME_WORDS];
+            #[rustfmt::skip]
+            let requests = [
+                Request::PageWrite { caller, gpa, hpa, words },
+                Request::PageRead { caller, gpa, hpa },
+                Request::PageCheck { caller, gpa, hpa },
+            ];
+            requests
+        })
+    }
+
+    #[test]
+    fn whole_pages_disturb_no_account() {
+        let mut run = Run::new();
+        run.make_all(&OPENED);
+        run.make_all(&["W 7 50000 1000 2 2 3 2a"]);
+        // The guest's own page, to which they are refused, SHARED frames with
+        // and without an entry, and a frame that memory lacks.
+        for frame in [1, 2, 8, 10] {
+            for request in page_requests(0x50000, frame << 12, 0x77) {
+                assert_eq!(run.request(&request), Ok(()), "{request:x?}");
+                run.make_all(&["R 7 50000 1000 2 2 3", "R 7 50000 1000 2 2 4"]);
+            }
+        }
+        assert_eq!(run.memory[2 * FRAME_WORDS..3 * FRAME_WORDS], [0x77; 512]);
+        // What a page write at the guest's address put elsewhere is not its own.
+        let read = "R 7 50000 1000 2 2 3";
+        assert!(run.claim(read, Answer::Word(0x2a)).is_ok());
+        assert!(run.claim(read, Answer::Word(0x77)).is_err());
+    }
+
+    #[test]
+    fn a_page_write_opens_nothing() {
+        let mut run = Run::new();
+        for request in page_requests(0x50000, 0x1000, 0x77) {
+            assert_eq!(run.request(&request), Ok(()));
+        }
+        let read = "R 7 50000 1000 2 2 3";
+        assert!(run.claim(read, Answer::Word(0x77)).is_err());
+        // The update zeroed the frame; nothing of the page is left to be found.
+        run.make_all(&OPENED);
+        run.make_all(&[read]);
+        assert!(run.claim(read, Answer::Word(0x77)).is_err());
+    }
+
+    #[test]
+    fn a_wrong_reply_for_a_page_is_caught() {
+        use Answer::{Already, Closed, Count, Done, None, Opened, Refused, Word};
+        let [asid, gpa] = [7, 0x50000];
+        let words = [0; FRAME_WORDS + 1];
+        for request in page_requests(gpa, 0x2000, 0) {
+            let reads = matches!(request, Request::PageRead { .. });
+            let check = |reply, fits: bool| {
+                let noted = Ledger::new().note_request(&request, reply, &[]);
+                assert_eq!(noted.is_ok(), fits, "{reply:?}");
+            };
+            for number in 0..=18 {
+                let given = [1, 2, 4, 5, 6].contains(&number);
+                check(Reply::Answer(Refused(number)), given && !reads);
+            }
+            check(Reply::Answer(Done), !reads);
+            for answer in [
+                None,
+                Closed { asid, gpa },
+                Opened,
+                Already,
+                Word(0),
+                Count(0),
+            ] {
+                check(Reply::Answer(answer), false);
+            }
+            for length in [0, 1, 511, 512, 513] {
+                check(Reply::Page(&words[..length]), reads && length % 512 == 0);
+            }
+        }
+    }
+
+    #[test]
+    fn a_page_is_no_answer_to_the_nine_calls() {
+        let call = Request::Call(parse(b"R 0 0 1000 0 0 0").unwrap());
+        let mut ledger = Ledger::new();
+        let mut note = |reply| ledger.note_request(&call, reply, &[]);
+        assert!(note(Reply::Answer(Answer::Word(0))).is_ok());
+        assert!(note(Reply::Page(&[])).is_err());
+        assert!(note(Reply::Page(&[0; FRAME_WORDS])).is_err());
     }
 }

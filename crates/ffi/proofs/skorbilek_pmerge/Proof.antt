@@ -1,7 +1,8 @@
--- `ffi::skorbilek_pmerge` meets its contract: the call's promise, carried through the flattening of its answer, makes a call of a run.
+-- `ffi::skorbilek_pmerge` meets its contract: the call's promise, carried through the flattening, makes a request of a run.
 -- Assumes nothing.
 use borrow.Author.Needs.{needs}
 use Rattle.rules.specs.Calls.{step}
+use Rattle.requests.specs.Requests.{respond}
 use Rattle.flat.proofs.Carried.{carried}
 use Rattle.ffi.proofs.skorbilek_pmerge.Statement.{statement}
 use Rattle.ffi.proofs.skorbilek_pmerge.Tie as tie
@@ -19,7 +20,7 @@ same-length-2 : tie.Need-same-length-2
 same-length-2 c = search needs
 
 returns : tie.Need-returns
-unfolding step
+unfolding respond step
 returns c = carried (c .before .before .before .before .before .pmerge .ensures) (c .flatten .ensures)
 
 pub skorbilek-pmerge-spec : {M : Type 1} → statement M

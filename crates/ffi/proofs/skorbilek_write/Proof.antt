@@ -1,7 +1,8 @@
--- `ffi::skorbilek_write` meets its contract: the call's promise, carried through the flattening of its answer, makes a call of a run.
+-- `ffi::skorbilek_write` meets its contract: the call's promise, carried through the flattening, makes a request of a run.
 -- Assumes nothing.
 use borrow.Author.Needs.{needs}
 use Rattle.rules.specs.Calls.{step}
+use Rattle.requests.specs.Requests.{respond}
 use Rattle.flat.proofs.Carried.{carried}
 use Rattle.ffi.proofs.skorbilek_write.Statement.{statement}
 use Rattle.ffi.proofs.skorbilek_write.Tie as tie
@@ -16,7 +17,7 @@ same-length : tie.Need-same-length
 same-length c = search needs
 
 returns : tie.Need-returns
-unfolding step
+unfolding respond step
 returns c = carried (c .before .before .before .write .ensures) (c .flatten .ensures)
 
 pub skorbilek-write-spec : {M : Type 1} → statement M

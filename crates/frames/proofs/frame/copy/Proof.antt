@@ -7,7 +7,7 @@ use lib.ListN.{length}
 use borrow.Author.Needs.{needs}
 use Rattle.words.proofs.RunLaws.{copied-whole}
 use Rattle.frames.specs.Frame.{frameCount, frameIn}
-use Rattle.frames.proofs.FrameLaws.{frame-outside, frame-long, lent-frame, frame-back, copied-outside}
+use Rattle.frames.proofs.FrameLaws.{frame-outside, frame-long, lent-frame, frame-laid, copied-outside}
 use Rattle.frames.proofs.frame.copy.Statement.{statement}
 use Rattle.frames.proofs.frame.copy.Tie as tie
 
@@ -65,16 +65,15 @@ same-length c = search needs
 returns : tie.Need-returns
 unfolding frameCount
 returns c =
-    let first = c .before .before .before .before .before .before .copy in
-    let second = c .before .before .copy2 in
-    let a = c .before .before .before .before .before .before .before .before .before .before .before .before .before .args in
+    let second = c .before .before in
+    let first = second .before .before .before .before in
+    let a = first .before .before .before .before .before .before .before .args in
     let m = a .memory .now in
     let run = frameIn m (a .from) in
     let long : length run ≡ 512 = frame-long m (a .from) (omega arith) in
-    let held : first .last .0 ≡ run = first .ensures ∙ rw lent-frame (copied-whole _ run (sym long)) in
-    let last : second .last .0 ≡ run =
-    second .ensures ∙ rw (held, lent-frame) (copied-whole _ run (frame-long m (a .to) (omega arith) ∙ sym long)) in
-    rw last (frame-back m (a .to) run (omega arith) long)
+    let held : first .copy .last .0 ≡ run =
+    first .copy .ensures ∙ rw (lent-frame m (a .from) (omega arith)) (copied-whole _ run (sym long)) in
+    frame-laid m (a .to) run _ (omega arith) long (second .copy2 .ensures ∙ rw held)
 
 returns-2 : tie.Need-returns-2
 unfolding frameCount

@@ -2,6 +2,7 @@
 -- definition.
 -- Assumes nothing.
 use mathlib.Core.Path.{sym, _∙_}
+use Prim.Native.Nat.{_<_}
 use native.Mathlib.Omega.{arith}
 use borrow.Author.Needs.{needs}
 use Rattle.frames.specs.Frame.{frameCount}
@@ -53,9 +54,11 @@ unfolding frameCount
 returns c =
     let a = c .before .before .before .before .before .before .args in
     let m = a .memory .now in
+    let one : a .one < frameCount m = omega arith in
+    let two : a .two < frameCount m = omega arith in
     c .differing .ensures
-    ∙ rw (lent-frame m (a .one), lent-frame m (a .two), frame-long m (a .one) (omega arith), frame-long m (a .two) (omega arith))
-    (sym (differing-is m (a .one) (a .two) (omega arith) (omega arith)))
+    ∙ rw (lent-frame m (a .one) one, lent-frame m (a .two) two, frame-long m (a .one) one, frame-long m (a .two) two)
+    (sym (differing-is m (a .one) (a .two) one two))
 
 returns-2 : tie.Need-returns-2
 unfolding frameCount

@@ -1,6 +1,7 @@
 -- `frames::frame::odd` meets its contract: a frame that memory has is lent whole, and one that it does not have has no odd word.
 -- Assumes nothing.
 use mathlib.Core.Path.{sym, _∙_}
+use Prim.Native.Nat.{_<_}
 use native.Mathlib.Omega.{arith}
 use borrow.Author.Needs.{needs}
 use Rattle.frames.specs.Frame.{frameCount}
@@ -34,7 +35,8 @@ unfolding frameCount
 returns c =
     let a = c .before .before .before .before .args in
     let m = a .memory .now in
-    c .odd .ensures ∙ rw (lent-frame m (a .frame), frame-long m (a .frame) (omega arith)) (odd-is m (a .frame) (omega arith) 512)
+    let had : a .frame < frameCount m = omega arith in
+    c .odd .ensures ∙ rw (lent-frame m (a .frame) had, frame-long m (a .frame) had) (odd-is m (a .frame) had 512)
 
 returns-2 : tie.Need-returns-2
 unfolding frameCount

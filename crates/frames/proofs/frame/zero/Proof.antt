@@ -39,7 +39,7 @@ returns c =
     let a = c .before .before .before .before .before .before .args in
     let m = a .memory .now in
     let last : c .before .before .zero .last .0 ≡ zeros =
-    c .before .before .zero .ensures ∙ rw (lent-frame, frame-long m (a .frame) (omega arith)) in
+    c .before .before .zero .ensures ∙ rw (lent-frame m (a .frame) (omega arith), frame-long m (a .frame) (omega arith)) in
     rw last (frame-back m (a .frame) zeros (omega arith) length-zeros)
 
 returns-2 : tie.Need-returns-2

@@ -1,0 +1,48 @@
+-- `pages::check` meets its contract: the rule is what the three parts of an access come to, for SHARED and word 0.
+-- Assumes nothing.
+use borrow.Author.Needs.{needs}
+use Rattle.requests.specs.Pages.{sharedAccess}
+use Rattle.checks.specs.Gate.{past}
+use Rattle.access.proofs.AccessLaws.{access-parts, access-checked}
+use Rattle.pages.proofs.check.Statement.{statement}
+use Rattle.pages.proofs.check.Tie as tie
+
+begun-requires : tie.Need-begun-requires
+begun-requires c κs = search needs
+
+enum-known-begun : tie.Need-enum-known-begun
+enum-known-begun c = search needs
+
+returns : tie.Need-returns
+unfolding sharedAccess past
+returns c = λ v. rw (access-parts, ← c .before .before .before .begun .ensures, c .before .begun2 .given .1)
+
+enum-told : tie.Need-enum-told
+enum-told c = search needs
+
+reach-requires : tie.Need-reach-requires
+reach-requires c κs = search needs
+
+allowed-requires : tie.Need-allowed-requires
+allowed-requires c κs = search needs
+
+returns-2 : tie.Need-returns-2
+unfolding sharedAccess past
+returns-2 c =
+    let at-reach = c .before in let at-open = at-reach .before in let at-begun = at-open .before .before in
+    let parts =
+    access-checked _ _ _ _ _ _ _ _ _ (at-begun .begun .result) (c .allowed .result) (at-reach .reach .result)
+    (at-begun .begun .ensures) (at-reach .reach .ensures) (c .allowed .ensures) in
+    λ v. rw (parts v, at-open .enum-told .given .1)
+
+pub check-spec : {M : Type 1} → statement M
+check-spec =
+    tie.close
+    (tie.spec
+    begun-requires
+    enum-known-begun
+    returns
+    enum-told
+    reach-requires
+    allowed-requires
+    returns-2)

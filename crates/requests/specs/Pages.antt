@@ -1,0 +1,39 @@
+-- 02, Q-1, "Whole shared pages for the disk driver": a reading, a writing and a check of a whole frame. "Each takes caller, gpa and hpa."
+use mathlib.Core.Bool.{Bool}
+use mathlib.Core.List.{List, []}
+use Prim.Native.Nat.{ℕ}
+use lib.Dec.{eqb}
+use lib.ListN.{length}
+use Rattle.entries.specs.Entry.{SHARED, frameOf}
+use Rattle.rules.specs.Access.{reading, writing, access}
+use Rattle.rules.specs.Answers.{done, Outcome, Verdict, refuse, grant, settle, unless}
+use Rattle.rules.specs.Refusals.{GEOMETRY, ARGUMENT}
+use Rattle.rules.specs.State.{State, sized, frameAt, withFrame}
+
+-- "The checks are those of READ and WRITE for a SHARED access with word index 0."
+unfoldable pub sharedAccess : State → Bool → ℕ → ℕ → ℕ → Verdict → Verdict
+sharedAccess s writes caller gpa hpa rest = access s writes caller gpa hpa SHARED SHARED 0 rest
+
+unfoldable pub readable : State → ℕ → ℕ → ℕ → Verdict
+readable s caller gpa hpa = sharedAccess s reading caller gpa hpa (grant done s)
+
+-- what a reading hands back: "A refused reading hands back an empty part"
+unfoldable pub handed : Verdict → List ℕ → List ℕ
+handed (refuse number) part = []
+handed (grant answer after) part = part
+
+-- "For host or guest, a SHARED access to a frame hands back the part of memory that is this frame, all 512 words"
+unfoldable pub pageRead : State → ℕ → ℕ → ℕ → List ℕ
+pageRead s caller gpa hpa = handed (readable s caller gpa hpa) (frameAt s (frameOf hpa))
+
+-- "a third call only checks it and answers the number, or 0": `done` stands for the 0
+unfoldable pub pageCheck : State → ℕ → ℕ → ℕ → Outcome
+pageCheck s caller gpa hpa = settle s (readable s caller gpa hpa)
+
+-- "a second call writes 512 given words to it"; "a written run that is not 512 words is 2", which is one of the first 2s: after 1
+unfoldable pub pageWrite : State → ℕ → ℕ → ℕ → List ℕ → Outcome
+pageWrite s caller gpa hpa words =
+    settle s
+    (unless (sized s) GEOMETRY
+    (unless (eqb (length words) 512) ARGUMENT
+    (sharedAccess s writing caller gpa hpa (grant done (withFrame s (frameOf hpa) words)))))
