@@ -1,13 +1,14 @@
 /*
- * The nine calls of the Skorbilek page ownership monitor, for C11 and C++.
+ * The nine calls of the Skorbilek page ownership monitor, and whole shared pages, for C11 and C++.
  *
  * Link with libskorbilek.a, which `./skorbilek build` makes. docs/CALLS.md has each call's checks in order, what it changes and what it
  * answers; that the functions follow these rules, on every input, is proved (docs/PROMISES.md).
  *
  * Table and memory are runs of 64-bit words that the caller lends, each as a pointer and a number of words (not bytes). Any words will
  * do, and any numbers as arguments: every call checks all of them itself and answers. A wrong length is refusal 1. What a caller owes:
- *   - each pointer is aligned as a uint64_t, is not NULL, and points to that many words; the two runs do not overlap;
- *   - nobody else touches the two runs while a call runs, but for other calls that take both as const;
+ *   - each pointer is aligned as a uint64_t, is not NULL, and points to that many words; no two runs overlap;
+ *   - nobody else touches table and memory while a call runs, but for other calls that take both as const;
+ *   - a pointer that skorbilek_page_read returned is not used any more once its frame may be a guest's page;
  *   - a run of calls starts with a table of zeros, and nothing but these calls changes table and memory from then on. (This one is for
  *     the promise that no counter goes back. Without it every call still answers by its rule.)
  * The library keeps no state, allocates nothing, and calls nothing but memset and memmove.
@@ -43,7 +44,7 @@ enum {
 /* What kind of answer it is, and which fields of skorbilek_answer it fills. */
 enum {
     SKORBILEK_REFUSED = 0, /* any call: `refusal` says why; table and memory are as they were */
-    SKORBILEK_DONE = 1,    /* pfix, pmerge, punmerge, punfix, write: accepted */
+    SKORBILEK_DONE = 1,    /* pfix, pmerge, punmerge, punfix, write, page_check, page_write: accepted */
     SKORBILEK_NONE = 2,    /* rmpupdate: accepted, and no open page was closed */
     SKORBILEK_CLOSED = 3,  /* rmpupdate: accepted, and the page of guest `asid` at `gpa` was closed */
     SKORBILEK_OPENED = 4,  /* pvalidate: the page is open now */
@@ -55,9 +56,9 @@ enum {
 /* Why a call was refused. The checks of a call are made in a fixed order, and the first that fails gives its number. */
 enum {
     SKORBILEK_REFUSAL_GEOMETRY = 1,       /* the lengths of table and memory break the sizes */
-    SKORBILEK_REFUSAL_ARGUMENT = 2,       /* no address, an ASID or word index above 511, a type that is not allowed */
+    SKORBILEK_REFUSAL_ARGUMENT = 2,       /* no address, an ASID or word index above 511, a type not allowed, a run that is no page */
     SKORBILEK_REFUSAL_CALLER = 3,         /* the call is not this party's */
-    SKORBILEK_REFUSAL_OUTSIDE = 4,        /* a named frame is N or above (read, write: M or above) */
+    SKORBILEK_REFUSAL_OUTSIDE = 4,        /* a named frame is N or above (read, write, pages: M or above) */
     SKORBILEK_REFUSAL_BAD_ENTRY = 5,      /* the entry of a named frame is not well formed */
     SKORBILEK_REFUSAL_TYPE = 6,           /* the type is not the one needed */
     SKORBILEK_REFUSAL_OWNER = 7,          /* the page is another party's */
@@ -119,6 +120,30 @@ skorbilek_answer skorbilek_write(const uint64_t *table, size_t table_words, uint
 /* CENSUS: how many places guest asid has, over all its addresses. Anyone may call it. Answers COUNT. */
 skorbilek_answer skorbilek_census(const uint64_t *table, size_t table_words, const uint64_t *memory, size_t memory_words,
                                   uint64_t asid);
+
+/*
+ * Whole shared pages: the 512 words of a SHARED frame at once. Any party may call. The checks are those of a read or write of its word 0
+ * with both types SHARED, so that gpa has to be an address and is not used; the refusals are 1, 2, 4, 5 and 6.
+ */
+
+/* Whether `caller` may read the SHARED frame at hpa. Answers DONE. */
+skorbilek_answer skorbilek_page_check(const uint64_t *table, size_t table_words, const uint64_t *memory, size_t memory_words,
+                                      uint64_t caller, uint64_t gpa, uint64_t hpa);
+
+/* `caller` writes 512 words to the SHARED frame at hpa. Any other number of words is refused with 2. `words` is no part of memory.
+   Answers DONE. */
+skorbilek_answer skorbilek_page_write(const uint64_t *table, size_t table_words, uint64_t *memory, size_t memory_words,
+                                      uint64_t caller, uint64_t gpa, uint64_t hpa, const uint64_t *words, size_t words_count);
+
+/* `caller` reads the SHARED frame at hpa: returns a pointer to its 512 words, or NULL where it is refused; skorbilek_page_check says why.
+   The words are those of the caller's memory itself, no copy, and change as it does. That the frame is SHARED was checked once: fetch
+   the pointer again after any call that can make it a guest's page or a LEAF (rmpupdate, punmerge). */
+static inline const uint64_t *skorbilek_page_read(const uint64_t *table, size_t table_words, const uint64_t *memory,
+                                                  size_t memory_words, uint64_t caller, uint64_t gpa, uint64_t hpa)
+{
+    skorbilek_answer answer = skorbilek_page_check(table, table_words, memory, memory_words, caller, gpa, hpa);
+    return answer.kind == SKORBILEK_DONE ? memory + hpa / sizeof *memory : NULL;
+}
 
 #ifdef __cplusplus
 }

@@ -1,5 +1,6 @@
 # Prints how a file declares the library's functions, a line each: its name, then its parameters, `*` before a run of words and `const`
-# where it can't be changed. It reads the Rattle source, the C header and the Rust bindings, so that the three can be compared:
+# where it can't be changed. It reads the Rattle source, the C header and the Rust bindings, so that the three can be compared. A function
+# that the header defines itself, inline, is none of the library's.
 #     awk -f tests/declarations.awk include/skorbilek.h
 { text = text " " $0 }
 
@@ -14,11 +15,12 @@ function parameter(p) {
 }
 
 END {
-    while (match(text, /skorbilek_[a-z]+\([^)]*\)/)) {
+    while (match(text, /skorbilek_[a-z_0-9]+\([^)]*\)/)) {
+        before = substr(text, 1, RSTART - 1)
         said = substr(text, RSTART, RLENGTH)
         text = substr(text, RSTART + RLENGTH)
         name = substr(said, 1, index(said, "(") - 1)
-        if (name in seen) continue
+        if (name in seen || before ~ /inline [a-z_0-9 *]*$/) continue
         seen[name] = 1
         n = split(substr(said, length(name) + 2, length(said) - length(name) - 2), list, ",")
         line = name

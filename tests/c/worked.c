@@ -1,6 +1,6 @@
 /*
  * The worked script of the requirements through the library, call for call, with the answers that the requirements print for it. It is
- * compiled as C11 and as C++, and each of the nine functions is called. The exit status is 0 only if every answer is right.
+ * compiled as C11 and as C++, and each of the nine calls is made. The exit status is 0 only if every answer is right.
  */
 #include "skorbilek.h"
 

@@ -16,7 +16,7 @@ pub(crate) struct Flat {
 /// What an accepted call answers.
 #[derive(Clone, Copy, PartialEq, Eq, Hash, Debug)]
 pub enum Answer {
-    /// PFIX, PMERGE, PUNMERGE, PUNFIX, WRITE: it is done.
+    /// PFIX, PMERGE, PUNMERGE, PUNFIX, WRITE, and the check or the writing of a whole page: it is done.
     Done,
     /// RMPUPDATE: no open page was closed.
     None,
@@ -42,11 +42,11 @@ pub enum Answer {
 pub enum Refusal {
     /// 1: the lengths of table and memory break the sizes.
     Geometry = 1,
-    /// 2: no address, an ASID or word index above 511, a type that is not allowed.
+    /// 2: no address, an ASID or word index above 511, a type that is not allowed, a written run that is not 512 words.
     Argument,
     /// 3: the call is not this party's.
     Caller,
-    /// 4: a named frame is N or above (READ, WRITE: M or above).
+    /// 4: a named frame is N or above (READ, WRITE and whole pages: M or above).
     Outside,
     /// 5: the entry of a named frame is not well formed.
     BadEntry,

@@ -1,4 +1,5 @@
-//! The nine calls. This is the only file with unsafe code: each function hands the pointers and lengths of its slices to the library.
+//! The library's functions: the nine calls, and the check and the writing of a whole shared page. This is the only file with unsafe code:
+//! each function hands the pointers and lengths of its slices to the library.
 //!
 //! What the library asks of a caller is true of a slice by its type: a pointer that is not null, aligned, to that many words, which
 //! nobody else writes to meanwhile. Two slices of which one is `&mut` do not overlap. Whatever words and numbers are, it answers.
@@ -27,6 +28,10 @@ extern "C" {
         caller: u64, gpa: u64, hpa: u64, gtype: u64, ntype: u64, index: u64, value: u64) -> Flat;
     fn skorbilek_census(table: *const u64, table_words: usize, memory: *const u64, memory_words: usize,
         asid: u64) -> Flat;
+    fn skorbilek_page_check(table: *const u64, table_words: usize, memory: *const u64, memory_words: usize,
+        caller: u64, gpa: u64, hpa: u64) -> Flat;
+    fn skorbilek_page_write(table: *const u64, table_words: usize, memory: *mut u64, memory_words: usize,
+        caller: u64, gpa: u64, hpa: u64, words: *const u64, words_count: usize) -> Flat;
 }
 
 /// RMPUPDATE: the host gives the frame at `hpa` to the guest `asid` at its address `gpa`, as a page of the type `kind`; or makes it
@@ -281,4 +286,57 @@ pub fn census(table: &[u64], memory: &[u64], asid: u64) -> Result<Answer, Refusa
     let (t, n) = (table.as_ptr(), table.len());
     let (m, w) = (memory.as_ptr(), memory.len());
     unsafe { skorbilek_census(t, n, m, w, asid) }.answer()
+}
+
+/// Whether `caller` may read the whole SHARED frame at `hpa` by [`page_read`](crate::page_read). The checks are those of a [`read()`] of
+/// its word 0 with both types SHARED; `gpa` has to be an address and is not used. Answers [`Answer::Done`].
+///
+/// ```
+/// # use skorbilek::{page_check, rmpupdate, Answer, Refusal, HOST, PRIVATE};
+/// # let (mut table, mut memory) = ([0; 16], vec![0; 5120]);
+/// // any party may read a SHARED frame, and nobody by this call once it is a guest's
+/// assert_eq!(page_check(&table, &memory, HOST, 0, 0x1000)?, Answer::Done);
+/// assert_eq!(page_check(&table, &memory, 7, 0x50000, 0x1000)?, Answer::Done);
+/// rmpupdate(&mut table, &mut memory, HOST, 0x1000, 0x50000, 7, PRIVATE)?;
+/// assert_eq!(page_check(&table, &memory, 7, 0x50000, 0x1000), Err(Refusal::PageType));
+/// # Ok::<(), Refusal>(())
+/// ```
+#[inline]
+pub fn page_check(
+    table: &[u64],
+    memory: &[u64],
+    caller: u64,
+    gpa: u64,
+    hpa: u64,
+) -> Result<Answer, Refusal> {
+    let (t, n) = (table.as_ptr(), table.len());
+    let (m, w) = (memory.as_ptr(), memory.len());
+    unsafe { skorbilek_page_check(t, n, m, w, caller, gpa, hpa) }.answer()
+}
+
+/// `caller` writes the whole SHARED frame at `hpa`: `words` are its 512 words from now on. The checks are those of a [`write()`] of its
+/// word 0 with both types SHARED; another number of words is refused with 2. Answers [`Answer::Done`].
+///
+/// ```
+/// # use skorbilek::{page_write, Refusal, FRAME_WORDS, HOST};
+/// # let (table, mut memory) = ([0; 16], vec![0; 5120]);
+/// let sector = [42; FRAME_WORDS];
+/// page_write(&table, &mut memory, HOST, 0, 0x2000, &sector)?;
+/// assert_eq!(memory[512 * 2..512 * 3], sector);
+/// assert_eq!(page_write(&table, &mut memory, HOST, 0, 0x2000, &sector[1..]), Err(Refusal::Argument));
+/// # Ok::<(), Refusal>(())
+/// ```
+#[inline]
+pub fn page_write(
+    table: &[u64],
+    memory: &mut [u64],
+    caller: u64,
+    gpa: u64,
+    hpa: u64,
+    words: &[u64],
+) -> Result<Answer, Refusal> {
+    let (t, n) = (table.as_ptr(), table.len());
+    let (m, w) = (memory.as_mut_ptr(), memory.len());
+    let (p, k) = (words.as_ptr(), words.len());
+    unsafe { skorbilek_page_write(t, n, m, w, caller, gpa, hpa, p, k) }.answer()
 }

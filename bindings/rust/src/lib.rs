@@ -1,4 +1,4 @@
-//! The nine calls of the Skorbilek page ownership monitor, on a table and a memory that the caller lends as slices.
+//! The nine calls of the Skorbilek page ownership monitor, and whole shared pages, on a table and a memory that the caller lends as slices.
 //!
 //! The table says which guest owns which page of memory. The host and the guests make calls on it, and the monitor checks each of them:
 //! every call answers, whatever the slices and the numbers hold, and a refusal changes nothing. That each call follows its rule on
@@ -30,6 +30,10 @@
 //! # Ok::<(), Refusal>(())
 //! ```
 //!
+//! A driver that moves whole pages through SHARED frames calls [`page_write`] and [`page_read`], and not [`write()`] and [`read()`] once
+//! for each word: the first takes 512 words, and the second hands back those of the frame, where they lie in memory. [`page_check`] makes
+//! the checks alone.
+//!
 //! A run of calls starts with a table of zeros and any memory, and nothing but these calls changes the two from then on: on that the
 //! promise that no counter goes back rests. `caller` is the number of the party for which a call is made.
 #![deny(unsafe_code)]
@@ -37,9 +41,12 @@
 
 mod answer;
 mod calls;
+mod pages;
 
 pub use answer::{Answer, Refusal};
 pub use calls::{census, pfix, pmerge, punfix, punmerge, pvalidate, read, rmpupdate, write};
+pub use calls::{page_check, page_write};
+pub use pages::page_read;
 
 /// The host's number as a caller. Guests are 1 to [`MAX_ASID`].
 pub const HOST: u64 = 0;
