@@ -98,25 +98,39 @@ pub fn call(letter: char, numbers: &[u64]) -> Call {
 /// A call of any letter, with numbers that fit their kinds by and large.
 pub fn any(random: &mut Random, state: &State) -> Call {
     let letter = random.pick(&LETTERS);
+    let numbers = any_numbers(random, state, kinds(letter), letter != 'C');
+    call(letter, &numbers)
+}
+
+/// Numbers that fit these kinds by and large. The first may be the caller's.
+pub fn any_numbers(
+    random: &mut Random,
+    state: &State,
+    kinds: &[Kind],
+    has_caller: bool,
+) -> Vec<u64> {
     let mut of_kind = |(place, &kind): (usize, &Kind)| match kind {
-        Kind::Party if place == 0 && letter != 'C' && random.chance(50) => 0,
+        Kind::Party if place == 0 && has_caller && random.chance(50) => 0,
         _ if random.chance(10) => random.pick(&BOUNDARIES),
         _ => fitting(random, state, kind),
     };
-    let places = kinds(letter).iter().enumerate();
-    let numbers: Vec<u64> = places.map(&mut of_kind).collect();
-    call(letter, &numbers)
+    kinds.iter().enumerate().map(&mut of_kind).collect()
 }
 
 /// The call with one number changed, or two or three.
 pub fn distorted(random: &mut Random, state: &State, of: &Call) -> Call {
     let letter = of.letter();
     let mut numbers = numbers(of);
+    distort(random, state, kinds(letter), &mut numbers);
+    call(letter, &numbers)
+}
+
+/// Changes one of these numbers, or two or three.
+pub fn distort(random: &mut Random, state: &State, kinds: &[Kind], numbers: &mut [u64]) {
     for _ in 0..random.pick(&[1, 1, 1, 2, 3]) {
         let place = random.index(numbers.len());
-        numbers[place] = near(random, state, kinds(letter)[place], numbers[place]);
+        numbers[place] = near(random, state, kinds[place], numbers[place]);
     }
-    call(letter, &numbers)
 }
 
 /// Another number in the place of this one.

@@ -1,10 +1,10 @@
-//! What was accepted in histories: openings, merges and the like, and the reads that the ledger has a claim about.
+//! What was accepted in histories: openings, merges and the like, the reads that the ledger has a claim about, and whole pages.
 
 use std::collections::BTreeMap;
 use std::fmt;
 
 use common::layout::{frame_of, gpa_of};
-use second::{Answer, Call};
+use second::{Answer, Call, Request};
 
 use crate::monitor::Outcome;
 use crate::state::State;
@@ -22,10 +22,12 @@ enum Event {
     Unfix,
     Read,
     MovedRead,
+    PageWritten,
+    PageReadBack,
 }
 
 /// By the order of `Event`.
-const NAMES: [&str; 10] = [
+const NAMES: [&str; 12] = [
     "openings",
     "openings of an address that was opened before",
     "closings",
@@ -36,6 +38,8 @@ const NAMES: [&str; 10] = [
     "unfixes",
     "reads at an address that was opened once",
     "reads at an address that was opened once, of a page that was merged or unmerged",
+    "whole pages written",
+    "whole pages read with the words that were last written to them whole",
 ];
 
 #[derive(Default)]
@@ -46,11 +50,12 @@ pub struct Counts {
 /// A guest and an address.
 type Holding = (u64, u64);
 
-/// What a history has brought a guest and address so far.
+/// What a history has brought a guest and address so far, and what was last written to a frame whole.
 #[derive(Default)]
 pub struct Past {
     openings: BTreeMap<Holding, u64>,
     moves: BTreeMap<Holding, u64>,
+    pages: BTreeMap<u64, Vec<u64>>,
 }
 
 /// Whose page a PMERGE or PUNMERGE moves.
@@ -60,8 +65,11 @@ pub struct Moved {
     owner: bool,
 }
 
-/// Whose page the call moves, if it is accepted in this state.
-pub fn moved(call: &Call, before: &State) -> Option<Moved> {
+/// Whose page the request moves, if it is accepted in this state.
+pub fn moved(request: &Request, before: &State) -> Option<Moved> {
+    let Request::Call(call) = request else {
+        return None;
+    };
     let page = |hpa: u64| {
         let frame = frame_of(hpa);
         (frame < before.n()).then(|| before.entry(frame))
@@ -87,11 +95,31 @@ pub fn moved(call: &Call, before: &State) -> Option<Moved> {
 }
 
 impl Counts {
-    /// Counts what a call brought.
-    pub fn note(&mut self, call: &Call, outcome: Outcome, moved: Option<Moved>, past: &mut Past) {
-        let Outcome::Answered(answer) = outcome else {
-            return;
-        };
+    /// Counts what a request brought.
+    pub fn note(
+        &mut self,
+        request: &Request,
+        outcome: &Outcome,
+        moved: Option<Moved>,
+        past: &mut Past,
+    ) {
+        match (request, outcome) {
+            (Request::Call(call), &Outcome::Answered(answer)) => {
+                self.note_call(call, answer, moved, past);
+            }
+            (Request::PageWrite { hpa, words, .. }, Outcome::Answered(Answer::Done)) => {
+                past.pages.insert(*hpa, words.clone());
+                self.add(Event::PageWritten, true);
+            }
+            (Request::PageRead { hpa, .. }, Outcome::Handed(part)) => {
+                let same = past.pages.get(hpa) == Some(&part.words);
+                self.add(Event::PageReadBack, same);
+            }
+            _ => {}
+        }
+    }
+
+    fn note_call(&mut self, call: &Call, answer: Answer, moved: Option<Moved>, past: &mut Past) {
         match (*call, answer) {
             (Call::Pvalidate { caller, gpa, .. }, Answer::Opened) => {
                 let openings = past.openings.entry((caller, gpa)).or_default();

@@ -1,22 +1,22 @@
-//! Part (c): histories from an empty table and any memory. Each call and its answer go into the ledger of demand 3, which says whether a
+//! Part (c): histories from an empty table and any memory. Each request and its reply go into the ledger of demand 3, which says whether a
 //! guest's page went back to an older state, and whether places plus closings are the openings.
 
-use second::{Answer, Call, Ledger};
+use second::{Answer, Ledger, Reply, Request};
 
 use crate::counts::{moved, Counts, Past};
-use crate::guided;
 use crate::monitor::{Monitor, Outcome};
 use crate::pair::{Finding, Pair};
 use crate::random::Random;
 use crate::report::Report;
+use crate::requests;
 use crate::shrink::Case;
 use crate::state::State;
 use crate::table::Table;
 
-/// The places of all guests are counted after so many calls, and at the end.
+/// The places of all guests are counted after so many requests, and at the end.
 const PLACES_EVERY: usize = 8;
 
-/// Makes this many calls on both monitors, in histories, and counts what they answered.
+/// Makes this many requests of both monitors, in histories, and counts what they replied.
 pub fn compare(
     monitors: [&dyn Monitor; 2],
     seed: u64,
@@ -56,22 +56,23 @@ fn run(
 ) -> Result<(), Box<Report>> {
     let mut history = History::new(monitors, &start(random));
     let start = history.pair.states[0].clone();
-    let mut calls = Vec::new();
+    let mut requests = Vec::new();
     let mut past = Past::default();
     for _ in 0..length {
-        let call = guided::call(random, &history.pair.states[1], 15);
-        let moved = moved(&call, &history.pair.states[1]);
-        calls.push(call);
-        match history.step(&call) {
-            Ok(outcome) => {
-                table.count(&call, outcome);
-                counts.note(&call, outcome, moved, &mut past);
-            }
-            Err(finding) => return Err(report(monitors, Case { start, calls }, *finding)),
+        let request = requests::guided(random, &history.pair.states[1], 15);
+        let moved = moved(&request, &history.pair.states[1]);
+        let step = history.step(&request);
+        if let Ok(outcome) = &step {
+            table.count(&request, outcome);
+            counts.note(&request, outcome, moved, &mut past);
+        }
+        requests.push(request);
+        if let Err(finding) = step {
+            return Err(report(monitors, Case { start, requests }, *finding));
         }
     }
     let end = history.end();
-    end.map_err(|finding| report(monitors, Case { start, calls }, *finding))
+    end.map_err(|finding| report(monitors, Case { start, requests }, *finding))
 }
 
 fn report(monitors: [&dyn Monitor; 2], case: Case, finding: Finding) -> Box<Report> {
@@ -82,8 +83,8 @@ fn report(monitors: [&dyn Monitor; 2], case: Case, finding: Finding) -> Box<Repo
 /// The first fault of a history.
 pub fn check(monitors: [&dyn Monitor; 2], case: &Case) -> Option<Box<Finding>> {
     let mut history = History::new(monitors, &case.start);
-    for call in &case.calls {
-        if let Err(finding) = history.step(call) {
+    for request in &case.requests {
+        if let Err(finding) = history.step(request) {
             return Some(finding);
         }
     }
@@ -95,7 +96,7 @@ struct History<'a> {
     pair: Pair<'a>,
     ledger: Ledger,
     made: usize,
-    last: Option<(Call, Outcome)>,
+    last: Option<(Request, Outcome)>,
 }
 
 impl<'a> History<'a> {
@@ -108,27 +109,28 @@ impl<'a> History<'a> {
         }
     }
 
-    /// Makes a call. Between the two monitors' turns the second state is still what the first got, which the ledger asks for.
-    fn step(&mut self, call: &Call) -> Result<Outcome, Box<Finding>> {
-        let left = self.pair.make(0, call);
-        let noted = match left {
-            Outcome::Answered(answer) => {
-                self.ledger.note(call, answer, &self.pair.states[1].memory)
+    /// Makes a request. Between the two monitors' turns the second state is still what the first got, which the ledger asks for.
+    fn step(&mut self, request: &Request) -> Result<Outcome, Box<Finding>> {
+        let left = self.pair.make(0, request);
+        let noted = match reply(request, &left) {
+            Some(reply) => {
+                let before = &self.pair.states[1].memory;
+                self.ledger.note_request(request, reply, before)
             }
-            Outcome::Panicked => Err("a history makes no monitor panic".to_owned()),
+            None => Err("a history makes no monitor panic".to_owned()),
         };
-        let right = self.pair.make(1, call);
-        self.pair.agree(call, [left, right])?;
-        self.last = Some((*call, left));
+        let right = self.pair.make(1, request);
+        let outcome = self.pair.agree(request, [left, right])?;
+        self.last = Some((request.clone(), outcome.clone()));
         self.made += 1;
         self.claim(noted)?;
-        if let Outcome::Answered(Answer::Refused(number @ (5 | 12))) = left {
+        if let Outcome::Answered(Answer::Refused(number @ (5 | 12))) = outcome {
             self.claim(Err(format!("a history never meets {number}")))?;
         }
         if self.made.is_multiple_of(PLACES_EVERY) {
             self.end()?;
         }
-        Ok(left)
+        Ok(outcome)
     }
 
     /// Counts the places of all guests.
@@ -138,14 +140,24 @@ impl<'a> History<'a> {
     }
 
     fn claim(&self, claim: Result<(), String>) -> Result<(), Box<Finding>> {
-        match (claim, self.last) {
-            (Err(claim), Some((call, outcome))) => Err(Box::new(Finding {
-                call,
-                outcomes: [outcome; 2],
+        match (claim, &self.last) {
+            (Err(claim), Some((request, outcome))) => Err(Box::new(Finding {
+                request: request.clone(),
+                outcomes: [outcome.clone(), outcome.clone()],
                 words: Vec::new(),
                 claim: Some(claim),
             })),
             _ => Ok(()),
         }
+    }
+}
+
+/// What the ledger notes: a reading of a page that is refused hands back an empty part.
+fn reply<'a>(request: &Request, outcome: &'a Outcome) -> Option<Reply<'a>> {
+    match (request, outcome) {
+        (_, Outcome::Panicked) => None,
+        (_, Outcome::Handed(part)) => Some(Reply::Page(&part.words)),
+        (Request::PageRead { .. }, Outcome::Answered(Answer::Refused(_))) => Some(Reply::Page(&[])),
+        (_, &Outcome::Answered(answer)) => Some(Reply::Answer(answer)),
     }
 }

@@ -1,4 +1,4 @@
-//! Compares two monitors, and two script programs, on random calls; the same seed and size give the same calls.
+//! Compares two monitors, and two script programs, on random requests; the same seed and size give the same requests.
 //!
 //! The proved library and the second program are compared by `cargo run --profile compare -p compare`. Everything here is written for
 //! any two monitors, so that the tests can plant faults in one of them and see that they are found.
@@ -11,10 +11,12 @@ mod damage;
 mod guided;
 pub mod histories;
 pub mod monitor;
+mod pages;
 pub mod pair;
 pub mod program;
 pub mod random;
 pub mod report;
+pub mod requests;
 pub mod run;
 pub mod scripts;
 pub mod sequences;

@@ -1,18 +1,21 @@
-//! Monitors behind one interface, so that any two can be compared, and a call made by one of them.
+//! Monitors behind one interface, so that any two can be compared, and a request taken by one of them.
 
 use std::cell::Cell;
+use std::ops::Range;
 use std::panic::{self, AssertUnwindSafe};
 use std::sync::Once;
 
 use common::answer::translated;
-use second::{Answer, Call};
+use second::{page_check, page_read, Answer, Call, Reply, Request};
 
 use crate::state::State;
 
-/// A monitor: it makes calls on a table and a memory that it is lent.
+/// A monitor: it takes requests on a table and a memory that it is lent.
 pub trait Monitor {
     fn name(&self) -> &str;
-    fn make(&self, call: &Call, table: &mut [u64], memory: &mut [u64]) -> Answer;
+
+    /// Replies. A reading of a page that is refused replies the number, which is what the check of it answers.
+    fn reply<'m>(&self, request: &Request, table: &mut [u64], memory: &'m mut [u64]) -> Reply<'m>;
 }
 
 /// The proved library, through its Rust bindings.
@@ -21,11 +24,20 @@ pub struct Proved;
 /// The second program.
 pub struct Second;
 
-/// What came of a call.
-#[derive(Clone, Copy, PartialEq, Eq, Debug)]
+/// What came of a request.
+#[derive(Clone, PartialEq, Eq, Debug)]
 pub enum Outcome {
     Answered(Answer),
+    Handed(Part),
     Panicked,
+}
+
+/// What a reading of a page handed back.
+#[derive(Clone, PartialEq, Eq, Debug)]
+pub struct Part {
+    /// Where it begins in memory, if it is a part of it.
+    pub start: Option<usize>,
+    pub words: Vec<u64>,
 }
 
 impl Monitor for Proved {
@@ -34,27 +46,53 @@ impl Monitor for Proved {
     }
 
     #[rustfmt::skip]
-    fn make(&self, call: &Call, table: &mut [u64], memory: &mut [u64]) -> Answer {
-        translated(match *call {
-            Call::Rmpupdate { caller, hpa, gpa, asid, kind } =>
-                skorbilek::rmpupdate(table, memory, caller, hpa, gpa, asid, kind),
-            Call::Pvalidate { caller, gpa, hpa, kind } =>
-                skorbilek::pvalidate(table, memory, caller, gpa, hpa, kind),
-            Call::Pfix { caller, hpa, leaf } =>
-                skorbilek::pfix(table, memory, caller, hpa, leaf),
-            Call::Pmerge { caller, hpa1, hpa2 } =>
-                skorbilek::pmerge(table, memory, caller, hpa1, hpa2),
-            Call::Punmerge { caller, hpa1, hpa2, asid } =>
-                skorbilek::punmerge(table, memory, caller, hpa1, hpa2, asid),
-            Call::Punfix { caller, hpa } =>
-                skorbilek::punfix(table, memory, caller, hpa),
-            Call::Read { caller, gpa, hpa, gtype, ntype, index } =>
-                skorbilek::read(table, memory, caller, gpa, hpa, gtype, ntype, index),
-            Call::Write { caller, gpa, hpa, gtype, ntype, index, value } =>
-                skorbilek::write(table, memory, caller, gpa, hpa, gtype, ntype, index, value),
-            Call::Census { asid } =>
-                skorbilek::census(table, memory, asid),
-        })
+    fn reply<'m>(
+        &self,
+        request: &Request,
+        table: &mut [u64],
+        memory: &'m mut [u64],
+    ) -> Reply<'m> {
+        Reply::Answer(translated(match *request {
+            Request::Call(ref call) => proved(call, table, memory),
+            Request::PageRead { caller, gpa, hpa } =>
+                match skorbilek::page_read(table, memory, caller, gpa, hpa) {
+                    Ok(page) => return Reply::Page(page),
+                    Err(refusal) => Err(refusal),
+                },
+            Request::PageWrite { caller, gpa, hpa, ref words } =>
+                skorbilek::page_write(table, memory, caller, gpa, hpa, words),
+            Request::PageCheck { caller, gpa, hpa } =>
+                skorbilek::page_check(table, memory, caller, gpa, hpa),
+        }))
+    }
+}
+
+/// A call by the library.
+#[rustfmt::skip]
+fn proved(
+    call: &Call,
+    table: &mut [u64],
+    memory: &mut [u64],
+) -> Result<skorbilek::Answer, skorbilek::Refusal> {
+    match *call {
+        Call::Rmpupdate { caller, hpa, gpa, asid, kind } =>
+            skorbilek::rmpupdate(table, memory, caller, hpa, gpa, asid, kind),
+        Call::Pvalidate { caller, gpa, hpa, kind } =>
+            skorbilek::pvalidate(table, memory, caller, gpa, hpa, kind),
+        Call::Pfix { caller, hpa, leaf } =>
+            skorbilek::pfix(table, memory, caller, hpa, leaf),
+        Call::Pmerge { caller, hpa1, hpa2 } =>
+            skorbilek::pmerge(table, memory, caller, hpa1, hpa2),
+        Call::Punmerge { caller, hpa1, hpa2, asid } =>
+            skorbilek::punmerge(table, memory, caller, hpa1, hpa2, asid),
+        Call::Punfix { caller, hpa } =>
+            skorbilek::punfix(table, memory, caller, hpa),
+        Call::Read { caller, gpa, hpa, gtype, ntype, index } =>
+            skorbilek::read(table, memory, caller, gpa, hpa, gtype, ntype, index),
+        Call::Write { caller, gpa, hpa, gtype, ntype, index, value } =>
+            skorbilek::write(table, memory, caller, gpa, hpa, gtype, ntype, index, value),
+        Call::Census { asid } =>
+            skorbilek::census(table, memory, asid),
     }
 }
 
@@ -63,8 +101,15 @@ impl Monitor for Second {
         "second"
     }
 
-    fn make(&self, call: &Call, table: &mut [u64], memory: &mut [u64]) -> Answer {
-        call.make(table, memory)
+    fn reply<'m>(&self, request: &Request, table: &mut [u64], memory: &'m mut [u64]) -> Reply<'m> {
+        let Request::PageRead { caller, gpa, hpa } = *request else {
+            return request.make(table, memory);
+        };
+        let memory: &[u64] = memory;
+        match page_read(table, memory, caller, gpa, hpa) {
+            [] => Reply::Answer(page_check(table, memory, caller, gpa, hpa)),
+            page => Reply::Page(page),
+        }
     }
 }
 
@@ -72,10 +117,25 @@ thread_local! {
     static TRYING: Cell<bool> = const { Cell::new(false) };
 }
 
-/// Makes a call. A panic is an outcome too: it is compared and reported like an answer.
-pub fn make(monitor: &dyn Monitor, call: &Call, state: &mut State) -> Outcome {
-    let made = attempt(|| monitor.make(call, &mut state.table, &mut state.memory));
-    made.map_or(Outcome::Panicked, Outcome::Answered)
+/// Takes a request. A panic is an outcome too: it is compared and reported like an answer.
+pub fn make(monitor: &dyn Monitor, request: &Request, state: &mut State) -> Outcome {
+    let State { table, memory } = state;
+    let lent = memory.as_ptr_range();
+    let made = attempt(|| match monitor.reply(request, table, memory) {
+        Reply::Answer(answer) => Outcome::Answered(answer),
+        Reply::Page(words) => Outcome::Handed(Part {
+            start: place(lent, words),
+            words: words.to_vec(),
+        }),
+    });
+    made.unwrap_or(Outcome::Panicked)
+}
+
+/// Where these words begin in memory, if they are a part of it.
+fn place(memory: Range<*const u64>, words: &[u64]) -> Option<usize> {
+    let part = words.as_ptr_range();
+    let inside = memory.start <= part.start && part.end <= memory.end;
+    inside.then(|| (part.start.addr() - memory.start.addr()) / size_of::<u64>())
 }
 
 /// What this gives, unless it panics; a panic prints nothing.

@@ -1,6 +1,6 @@
-//! Two monitors on two equal states: a call is made by each, and answers, tables and memories are compared whole.
+//! Two monitors on two equal states: each takes a request, and replies, tables and memories are compared whole.
 
-use second::Call;
+use second::Request;
 
 use crate::monitor::{make, Monitor, Outcome};
 use crate::state::State;
@@ -13,12 +13,12 @@ pub struct Pair<'a> {
     pub states: [State; 2],
 }
 
-/// What is wrong with a call: the two differ, or something is claimed that does not hold.
+/// What is wrong with a request: the two differ, or something is claimed that does not hold.
 #[derive(Clone, Debug)]
 pub struct Finding {
-    pub call: Call,
+    pub request: Request,
     pub outcomes: [Outcome; 2],
-    /// The first words in which the states after the call differ.
+    /// The first words in which the states after it differ.
     pub words: Vec<Differing>,
     pub claim: Option<String>,
 }
@@ -38,27 +38,32 @@ impl<'a> Pair<'a> {
         }
     }
 
-    /// Both make the call.
-    pub fn step(&mut self, call: &Call) -> Result<Outcome, Box<Finding>> {
-        let outcomes = [self.make(0, call), self.make(1, call)];
-        self.agree(call, outcomes)
+    /// Both take the request.
+    pub fn step(&mut self, request: &Request) -> Result<Outcome, Box<Finding>> {
+        let outcomes = [self.make(0, request), self.make(1, request)];
+        self.agree(request, outcomes)
     }
 
-    /// One of the two makes the call.
-    pub fn make(&mut self, side: usize, call: &Call) -> Outcome {
-        make(self.monitors[side], call, &mut self.states[side])
+    /// One of the two takes the request.
+    pub fn make(&mut self, side: usize, request: &Request) -> Outcome {
+        make(self.monitors[side], request, &mut self.states[side])
     }
 
-    /// Whether the outcomes of a call and the states after it are the same.
-    pub fn agree(&self, call: &Call, outcomes: [Outcome; 2]) -> Result<Outcome, Box<Finding>> {
+    /// Whether the outcomes of a request and the states after it are the same.
+    pub fn agree(
+        &self,
+        request: &Request,
+        outcomes: [Outcome; 2],
+    ) -> Result<Outcome, Box<Finding>> {
         let [left, right] = &self.states;
         if outcomes[0] == outcomes[1] && left == right {
-            return Ok(outcomes[0]);
+            let [outcome, _] = outcomes;
+            return Ok(outcome);
         }
         let tables = differing(true, &left.table, &right.table);
         let memories = differing(false, &left.memory, &right.memory);
         Err(Box::new(Finding {
-            call: *call,
+            request: request.clone(),
             outcomes,
             words: tables.chain(memories).take(LISTED).collect(),
             claim: None,

@@ -1,12 +1,13 @@
-//! What is printed where a fault is found: the smallest case, as words and as lines of a script, and what was answered.
+//! What is printed where a fault is found: the smallest case, as words and as lines of a script, and what was replied.
 
 use std::fmt;
 
 use common::layout::FRAME_WORDS;
 use second::Answer;
 
-use crate::monitor::{Monitor, Outcome};
+use crate::monitor::{Monitor, Outcome, Part};
 use crate::pair::Finding;
+use crate::requests::Shown;
 use crate::shrink::{smallest, Case, Check};
 
 /// At most so many words of a table or memory are printed.
@@ -55,8 +56,8 @@ impl Report {
 
     fn print_finding(&self, f: &mut fmt::Formatter<'_>) -> fmt::Result {
         let Self { names, finding, .. } = self;
-        writeln!(f, "at `{}`:", finding.call)?;
-        for (name, outcome) in names.iter().zip(finding.outcomes) {
+        writeln!(f, "at `{}`:", Shown(&finding.request))?;
+        for (name, outcome) in names.iter().zip(&finding.outcomes) {
             writeln!(f, "    {name}: {}", said(outcome))?;
         }
         if let Some(claim) = &finding.claim {
@@ -73,7 +74,7 @@ impl Report {
 
 impl fmt::Display for Report {
     fn fmt(&self, f: &mut fmt::Formatter<'_>) -> fmt::Result {
-        let Case { start, calls } = &self.case;
+        let Case { start, requests } = &self.case;
         let (t, m) = (start.table.len(), start.memory.len());
         writeln!(f, "{}: a fault", self.part)?;
         writeln!(
@@ -83,8 +84,8 @@ impl fmt::Display for Report {
         print_words(f, true, &start.table)?;
         print_words(f, false, &start.memory)?;
         writeln!(f, "calls:")?;
-        for call in calls {
-            writeln!(f, "    {call}")?;
+        for request in requests {
+            writeln!(f, "    {}", Shown(request))?;
         }
         self.print_finding(f)
     }
@@ -110,10 +111,23 @@ fn place(in_table: bool, position: usize) -> String {
     }
 }
 
-fn said(outcome: Outcome) -> String {
-    let Outcome::Answered(answer) = outcome else {
-        return "panicked".to_owned();
-    };
+fn said(outcome: &Outcome) -> String {
+    match outcome {
+        Outcome::Answered(answer) => answered(*answer),
+        Outcome::Handed(part) => handed(part),
+        Outcome::Panicked => "panicked".to_owned(),
+    }
+}
+
+fn handed(part: &Part) -> String {
+    let length = part.words.len();
+    match part.start {
+        Some(start) => format!("hands back {length} words from {} on", place(false, start)),
+        None => format!("hands back {length} words that are no part of memory"),
+    }
+}
+
+fn answered(answer: Answer) -> String {
     match answer {
         Answer::Refused(number) => format!("refused with {number}"),
         Answer::Closed { asid, gpa } => format!("closed {asid:x} {gpa:x}"),

@@ -3,7 +3,7 @@
 
 use std::fmt;
 
-use second::Call;
+use second::{Call, Request};
 
 use crate::arguments;
 use crate::guided;
@@ -81,7 +81,7 @@ fn script(random: &mut Random, calls: u64) -> Vec<Line> {
         if random.chance(15) {
             lines.push(wrong_line(random, &call));
         }
-        make(&Second, &call, &mut state);
+        make(&Second, &Request::Call(call), &mut state);
         let (bytes, wrong) = (spelled(random, &call), None);
         lines.push(Line { bytes, wrong });
     }

@@ -1,11 +1,10 @@
-//! Part (b): calls through the library, on states of every kind. Each state is used for a while, so that damaged ones go on changing.
+//! Part (b): requests through the library, on states of every kind. Each state is used for a while, so that damaged ones go on changing.
 
-use crate::arguments;
-use crate::guided;
 use crate::monitor::{make, Monitor};
 use crate::pair::{Finding, Pair};
 use crate::random::Random;
 use crate::report::Report;
+use crate::requests;
 use crate::shrink::Case;
 use crate::state::State;
 use crate::states;
@@ -15,7 +14,7 @@ use crate::table::Table;
 const LARGE_EVERY: u64 = 40_000;
 const LARGE_CALLS: u64 = 12;
 
-/// Makes this many calls on both monitors, and counts what they answered.
+/// Makes this many requests of both monitors, and counts what they replied.
 pub fn compare(
     monitors: [&dyn Monitor; 2],
     seed: u64,
@@ -39,7 +38,7 @@ pub fn compare(
     Ok(())
 }
 
-/// Makes calls on one state.
+/// Makes requests on one state.
 fn run(
     monitors: [&dyn Monitor; 2],
     start: State,
@@ -48,38 +47,42 @@ fn run(
     table: &mut Table,
 ) -> Result<(), Box<Report>> {
     let mut pair = Pair::new(monitors, &start);
-    let mut calls = Vec::new();
+    let mut requests = Vec::new();
     for _ in 0..length {
-        let call = match random.chance(12) {
-            true => arguments::any(random, &pair.states[1]),
-            false => guided::call(random, &pair.states[1], 40),
+        let request = match random.chance(12) {
+            true => requests::any(random, &pair.states[1]),
+            false => requests::guided(random, &pair.states[1], 40),
         };
-        calls.push(call);
-        match pair.step(&call) {
-            Ok(outcome) => table.count(&call, outcome),
-            Err(finding) => return Err(report(monitors, Case { start, calls }, *finding)),
+        let step = pair.step(&request);
+        if let Ok(outcome) = &step {
+            table.count(&request, outcome);
+        }
+        requests.push(request);
+        if let Err(finding) = step {
+            return Err(report(monitors, Case { start, requests }, *finding));
         }
     }
     Ok(())
 }
 
-/// The first call of a case on which the monitors differ.
+/// The first request of a case on which the monitors differ.
 pub fn check(monitors: [&dyn Monitor; 2], case: &Case) -> Option<Box<Finding>> {
     let mut pair = Pair::new(monitors, &case.start);
-    case.calls.iter().find_map(|call| pair.step(call).err())
+    let mut requests = case.requests.iter();
+    requests.find_map(|request| pair.step(request).err())
 }
 
-/// The last call of the case shows a difference. Mostly it alone does, on the state that it found.
+/// The last request of the case shows a difference. Mostly it alone does, on the state that it found.
 fn report(monitors: [&dyn Monitor; 2], case: Case, finding: Finding) -> Box<Report> {
     let check = |case: &Case| check(monitors, case);
-    let (last, before) = case.calls.split_last().expect("the call that differs");
+    let (last, before) = case.requests.split_last().expect("the one that differs");
     let mut start = case.start.clone();
-    for call in before {
-        make(monitors[1], call, &mut start);
+    for request in before {
+        make(monitors[1], request, &mut start);
     }
     let alone = Case {
         start,
-        calls: vec![*last],
+        requests: vec![last.clone()],
     };
     let case = if check(&alone).is_some() { alone } else { case };
     Report::new("sequences", monitors, case, finding, &check)

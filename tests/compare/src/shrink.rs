@@ -3,17 +3,18 @@
 use std::ops::Range;
 
 use common::layout::{address, entry_at, frame_at, frame_of, Entry, ENTRY_WORDS, FRAME_WORDS};
-use second::Call;
+use second::Request;
 
-use crate::arguments::{self, Kind};
+use crate::arguments::Kind;
 use crate::pair::Finding;
+use crate::requests::{kinds, numbers, with_numbers};
 use crate::state::State;
 
-/// Calls that are made in order, from this state on.
+/// Requests that are made in order, from this state on.
 #[derive(Clone)]
 pub struct Case {
     pub start: State,
-    pub calls: Vec<Call>,
+    pub requests: Vec<Request>,
 }
 
 /// What a case shows, if it shows a fault.
@@ -48,10 +49,10 @@ pub fn fewest<T: Clone>(items: &[T], mut fails: impl FnMut(&[T]) -> bool) -> Vec
     items
 }
 
-/// The smallest case that is found by dropping calls, words, bits and sizes in turn.
+/// The smallest case that is found by dropping requests, words, bits and sizes in turn.
 pub fn smallest(mut case: Case, check: &Check) -> Case {
     for _ in 0..6 {
-        let mut smaller = drop_calls(&mut case, check);
+        let mut smaller = drop_requests(&mut case, check);
         smaller |= drop_frames(&mut case, check);
         smaller |= shorten(&mut case, check);
         let large = case.start.memory.len() > SMALL;
@@ -60,10 +61,11 @@ pub fn smallest(mut case: Case, check: &Check) -> Case {
         }
         smaller |= clear_words(&mut case, table, check);
         smaller |= clear_words(&mut case, memory, check);
+        smaller |= clear_pages(&mut case, check);
         if large && smaller {
             continue;
         }
-        smaller |= simplify_calls(&mut case, check);
+        smaller |= simplify_requests(&mut case, check);
         smaller |= clear_bits(&mut case, table, check);
         smaller |= clear_bits(&mut case, memory, check);
         if !smaller {
@@ -73,46 +75,54 @@ pub fn smallest(mut case: Case, check: &Check) -> Case {
     case
 }
 
-fn table(state: &mut State) -> &mut Vec<u64> {
-    &mut state.table
+fn table(case: &mut Case) -> &mut Vec<u64> {
+    &mut case.start.table
 }
 
-fn memory(state: &mut State) -> &mut Vec<u64> {
-    &mut state.memory
+fn memory(case: &mut Case) -> &mut Vec<u64> {
+    &mut case.start.memory
 }
 
-fn drop_calls(case: &mut Case, check: &Check) -> bool {
-    let before = case.calls.len();
+/// The words that the request at this place writes.
+fn page(place: usize) -> impl Fn(&mut Case) -> &mut Vec<u64> {
+    move |case| match &mut case.requests[place] {
+        Request::PageWrite { words, .. } => words,
+        _ => panic!("no page is written here"),
+    }
+}
+
+fn drop_requests(case: &mut Case, check: &Check) -> bool {
+    let before = case.requests.len();
     let start = &case.start;
-    case.calls = fewest(&case.calls, |calls| {
+    case.requests = fewest(&case.requests, |requests| {
         check(&Case {
             start: start.clone(),
-            calls: calls.to_vec(),
+            requests: requests.to_vec(),
         })
         .is_some()
     });
-    case.calls.len() < before
+    case.requests.len() < before
 }
 
 /// Fewer frames, by halves and then one by one; a length that is no whole number of them keeps its odd words.
 fn shorten(case: &mut Case, check: &Check) -> bool {
     let mut smaller = false;
     for (part, unit) in [
-        (memory as fn(&mut State) -> &mut Vec<u64>, FRAME_WORDS),
+        (memory as fn(&mut Case) -> &mut Vec<u64>, FRAME_WORDS),
         (table, ENTRY_WORDS),
     ] {
         let halved = |length: usize| length / unit / 2 * unit + length % unit;
         let lessened = |length: usize| length.saturating_sub(unit);
         for next in [&halved as &dyn Fn(usize) -> usize, &lessened] {
             loop {
-                let words = part(&mut case.start);
+                let words = part(case);
                 let length = next(words.len());
                 if length == words.len() {
                     break;
                 }
                 let cut = words.split_off(length);
                 if check(case).is_none() {
-                    part(&mut case.start).extend(cut);
+                    part(case).extend(cut);
                     break;
                 }
                 smaller = true;
@@ -147,14 +157,14 @@ fn clear_columns(case: &mut Case, check: &Check) -> bool {
 }
 
 /// Zeroes ever smaller runs of words.
-fn clear_words(case: &mut Case, part: fn(&mut State) -> &mut Vec<u64>, check: &Check) -> bool {
+fn clear_words(case: &mut Case, part: impl Fn(&mut Case) -> &mut Vec<u64>, check: &Check) -> bool {
     let mut smaller = false;
-    let length = part(&mut case.start).len();
+    let length = part(case).len();
     let mut size = length.next_power_of_two();
     while size > 0 {
         for start in (0..length).step_by(size) {
             let range = start..length.min(start + size);
-            let words = &mut part(&mut case.start)[range.clone()];
+            let words = &mut part(case)[range.clone()];
             if words.iter().all(|&word| word == 0) {
                 continue;
             }
@@ -163,7 +173,7 @@ fn clear_words(case: &mut Case, part: fn(&mut State) -> &mut Vec<u64>, check: &C
             if check(case).is_some() {
                 smaller = true;
             } else {
-                part(&mut case.start)[range].copy_from_slice(&saved);
+                part(case)[range].copy_from_slice(&saved);
             }
         }
         size /= 2;
@@ -171,9 +181,21 @@ fn clear_words(case: &mut Case, part: fn(&mut State) -> &mut Vec<u64>, check: &C
     smaller
 }
 
+/// Zeroes words, and then bits, of each page that is written.
+fn clear_pages(case: &mut Case, check: &Check) -> bool {
+    let mut smaller = false;
+    for place in 0..case.requests.len() {
+        if let Request::PageWrite { .. } = case.requests[place] {
+            smaller |= clear_words(case, page(place), check);
+            smaller |= clear_bits(case, page(place), check);
+        }
+    }
+    smaller
+}
+
 /// Clears bits of the words that are left, from the highest on.
-fn clear_bits(case: &mut Case, part: fn(&mut State) -> &mut Vec<u64>, check: &Check) -> bool {
-    let words = part(&mut case.start);
+fn clear_bits(case: &mut Case, part: impl Fn(&mut Case) -> &mut Vec<u64>, check: &Check) -> bool {
+    let words = part(case);
     let left: Vec<usize> = (0..words.len())
         .filter(|&position| words[position] != 0)
         .collect();
@@ -183,15 +205,15 @@ fn clear_bits(case: &mut Case, part: fn(&mut State) -> &mut Vec<u64>, check: &Ch
     let mut smaller = false;
     for position in left {
         for bit in (0..64).rev() {
-            let word = part(&mut case.start)[position];
+            let word = part(case)[position];
             if word & 1 << bit == 0 {
                 continue;
             }
-            part(&mut case.start)[position] = word & !(1 << bit);
+            part(case)[position] = word & !(1 << bit);
             if check(case).is_some() {
                 smaller = true;
             } else {
-                part(&mut case.start)[position] = word;
+                part(case)[position] = word;
             }
         }
     }
@@ -234,12 +256,12 @@ fn restricted(case: &Case, kept: &[usize]) -> Case {
             start.put(frame, Entry { address, ..entry });
         }
     }
-    let calls = case
-        .calls
+    let requests = case
+        .requests
         .iter()
-        .map(|call| with_frames(call, renamed))
+        .map(|request| with_frames(request, renamed))
         .collect();
-    Case { start, calls }
+    Case { start, requests }
 }
 
 /// The words of these frames, as many as there are, and all words from frame N on.
@@ -251,38 +273,35 @@ fn kept_words(words: &[u64], at: fn(usize) -> Range<usize>, kept: &[usize], n: u
     frames.chain([rest]).flatten().copied().collect()
 }
 
-/// The call with the addresses of frames changed.
-fn with_frames(call: &Call, renamed: impl Fn(u64) -> u64) -> Call {
-    let mut numbers = arguments::numbers(call);
-    for (number, &kind) in numbers.iter_mut().zip(arguments::kinds(call.letter())) {
+/// The request with the addresses of frames changed.
+fn with_frames(request: &Request, renamed: impl Fn(u64) -> u64) -> Request {
+    let mut numbers = numbers(request);
+    for (number, &kind) in numbers.iter_mut().zip(kinds(request)) {
         if kind == Kind::Frame {
             *number = renamed(*number);
         }
     }
-    arguments::call(call.letter(), &numbers)
+    with_numbers(request, &numbers)
 }
 
-/// Puts smaller numbers in the place of each number of the calls: first wherever it stands, then in one place alone.
-fn simplify_calls(case: &mut Case, check: &Check) -> bool {
+/// Puts smaller numbers in the place of each number of the requests: first wherever it stands, then in one place alone.
+fn simplify_requests(case: &mut Case, check: &Check) -> bool {
     let mut smaller = false;
-    let mut met: Vec<u64> = case.calls.iter().flat_map(arguments::numbers).collect();
+    let mut met: Vec<u64> = case.requests.iter().flat_map(numbers).collect();
     met.sort_unstable();
     met.dedup();
     for number in met {
         smaller |= replace(case, number, check, |_, _| true);
     }
-    for place in 0..case.calls.len() {
-        for (argument, number) in arguments::numbers(&case.calls[place])
-            .into_iter()
-            .enumerate()
-        {
+    for place in 0..case.requests.len() {
+        for (argument, number) in numbers(&case.requests[place]).into_iter().enumerate() {
             smaller |= replace(case, number, check, |at, of| (at, of) == (place, argument));
         }
     }
     smaller
 }
 
-/// Replaces a number, in those calls and arguments that are asked for, by the first simpler one that keeps the fault.
+/// Replaces a number, in those requests and arguments that are asked for, by the first simpler one that keeps the fault.
 fn replace(
     case: &mut Case,
     number: u64,
@@ -296,21 +315,21 @@ fn replace(
         .chain(bits)
         .filter(|&simpler| simpler < number)
     {
-        let mut calls = case.calls.clone();
-        for (at, call) in calls.iter_mut().enumerate() {
-            let mut numbers = arguments::numbers(call);
+        let mut requests = case.requests.clone();
+        for (at, request) in requests.iter_mut().enumerate() {
+            let mut numbers = numbers(request);
             for (of, slot) in numbers.iter_mut().enumerate() {
                 if *slot == number && here(at, of) {
                     *slot = simpler;
                 }
             }
-            *call = arguments::call(call.letter(), &numbers);
+            *request = with_numbers(request, &numbers);
         }
-        let saved = std::mem::replace(&mut case.calls, calls);
-        if case.calls != saved && check(case).is_some() {
+        let saved = std::mem::replace(&mut case.requests, requests);
+        if case.requests != saved && check(case).is_some() {
             return true;
         }
-        case.calls = saved;
+        case.requests = saved;
     }
     false
 }

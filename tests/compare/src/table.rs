@@ -2,49 +2,54 @@
 
 use std::fmt;
 
-use second::{Answer, Call};
+use second::{Answer, Request};
 
 use crate::arguments::LETTERS;
 use crate::monitor::Outcome;
+use crate::requests;
 
-/// Which calls can be accepted, and be refused with 1 to 17: docs/CALLS.md, 'Refusals', the column 'Can be given by'.
+/// Which calls can be accepted, and be refused with 1 to 17: docs/CALLS.md, 'Refusals', the column 'Can be given by'. The small letters
+/// are whole pages, whose access is SHARED: any party may make it, and nothing is asked of a page of a guest.
 pub const REACHABLE: [&str; 18] = [
-    "UVFMDXRWC", // accepted
-    "UVFMDXRWC", // 1, GEOMETRY
-    "UVFMDXRWC", // 2, ARGUMENT
-    "UVFMDXRW",  // 3, CALLER
-    "UVFMDXRW",  // 4, OUTSIDE
-    "UVFMDXRWC", // 5, BAD ENTRY
-    "UVFMDXRW",  // 6, TYPE
-    "VRW",       // 7, OWNER
-    "VRW",       // 8, ADDRESS
-    "FMRW",      // 9, NOT VALIDATED
-    "UVFMW",     // 10, FIXED
-    "MDX",       // 11, NOT FIXED
-    "MDXRC",     // 12, BROKEN LEAF
-    "DXR",       // 13, NO PLACE
-    "M",         // 14, PLACE TAKEN
-    "F",         // 15, LEAF IN USE
-    "M",         // 16, CONTENTS
-    "X",         // 17, STILL SHARED
+    "UVFMDXRWCrwc", // accepted
+    "UVFMDXRWCrwc", // 1, GEOMETRY
+    "UVFMDXRWCrwc", // 2, ARGUMENT
+    "UVFMDXRW",     // 3, CALLER
+    "UVFMDXRWrwc",  // 4, OUTSIDE
+    "UVFMDXRWCrwc", // 5, BAD ENTRY
+    "UVFMDXRWrwc",  // 6, TYPE
+    "VRW",          // 7, OWNER
+    "VRW",          // 8, ADDRESS
+    "FMRW",         // 9, NOT VALIDATED
+    "UVFMW",        // 10, FIXED
+    "MDX",          // 11, NOT FIXED
+    "MDXRC",        // 12, BROKEN LEAF
+    "DXR",          // 13, NO PLACE
+    "M",            // 14, PLACE TAKEN
+    "F",            // 15, LEAF IN USE
+    "M",            // 16, CONTENTS
+    "X",            // 17, STILL SHARED
 ];
 
-const NAMES: [&str; 9] = [
-    "RMPUPDATE",
-    "PVALIDATE",
-    "PFIX",
-    "PMERGE",
-    "PUNMERGE",
-    "PUNFIX",
-    "READ",
-    "WRITE",
-    "CENSUS",
+const ROWS: [(char, &str); 12] = [
+    ('U', "RMPUPDATE"),
+    ('V', "PVALIDATE"),
+    ('F', "PFIX"),
+    ('M', "PMERGE"),
+    ('D', "PUNMERGE"),
+    ('X', "PUNFIX"),
+    ('R', "READ"),
+    ('W', "WRITE"),
+    ('C', "CENSUS"),
+    ('r', "page_read"),
+    ('w', "page_write"),
+    ('c', "page_check"),
 ];
 
 /// Counts by call and column: accepted, then the refusals by number. The last column is for numbers that no refusal has.
 #[derive(Default)]
 pub struct Table {
-    counts: [[u64; 19]; 9],
+    counts: [[u64; 19]; ROWS.len()],
 }
 
 impl Table {
@@ -52,14 +57,14 @@ impl Table {
         Self::default()
     }
 
-    /// Counts what both monitors answered.
-    pub fn count(&mut self, call: &Call, outcome: Outcome) {
-        let column = match outcome {
+    /// Counts what both monitors replied.
+    pub fn count(&mut self, request: &Request, outcome: &Outcome) {
+        let column = match *outcome {
             Outcome::Answered(Answer::Refused(number)) => usize::from(number).clamp(1, 18),
-            Outcome::Answered(_) => 0,
+            Outcome::Answered(_) | Outcome::Handed(_) => 0,
             Outcome::Panicked => 18,
         };
-        self.add(call.letter(), column);
+        self.add(requests::letter(request), column);
     }
 
     /// Counts a line that both script programs printed; whether it is an answer.
@@ -75,11 +80,12 @@ impl Table {
                 _ => 18,
             },
         };
-        self.add(char::from(letter), column)
+        let letter = char::from(letter);
+        LETTERS.contains(&letter) && self.add(letter, column)
     }
 
     fn add(&mut self, letter: char, column: usize) -> bool {
-        let row = LETTERS.iter().position(|&call| call == letter);
+        let row = ROWS.iter().position(|&(call, _)| call == letter);
         row.map(|row| self.counts[row][column] += 1).is_some()
     }
 
@@ -100,14 +106,14 @@ impl Table {
     /// The cells that are empty and must not be, and those that must be empty and are not.
     pub fn faults(&self) -> Vec<String> {
         let mut faults = Vec::new();
-        for (row, counts) in self.counts.iter().enumerate() {
+        for ((letter, name), counts) in ROWS.iter().zip(&self.counts) {
             for (column, &count) in counts.iter().enumerate() {
                 let cell = match column {
-                    0 => format!("{} accepted", NAMES[row]),
-                    18 => format!("{} with a number that no refusal has", NAMES[row]),
-                    number => format!("{} refused with {number}", NAMES[row]),
+                    0 => format!("{name} accepted"),
+                    18 => format!("{name} with a number that no refusal has"),
+                    number => format!("{name} refused with {number}"),
                 };
-                match (reachable(row, column), count) {
+                match (reachable(*letter, column), count) {
                     (true, 0) => faults.push(format!("never met: {cell}")),
                     (false, 1..) => faults.push(format!("met, and can't be: {cell}")),
                     _ => {}
@@ -118,24 +124,24 @@ impl Table {
     }
 }
 
-fn reachable(row: usize, column: usize) -> bool {
+fn reachable(letter: char, column: usize) -> bool {
     REACHABLE
         .get(column)
-        .is_some_and(|letters| letters.contains(LETTERS[row]))
+        .is_some_and(|letters| letters.contains(letter))
 }
 
 impl fmt::Display for Table {
     fn fmt(&self, f: &mut fmt::Formatter<'_>) -> fmt::Result {
-        write!(f, "{:9} {:>8}", "", "accepted")?;
+        write!(f, "{:10} {:>8}", "", "accepted")?;
         for number in 1..=17 {
             write!(f, " {number:>7}")?;
         }
         writeln!(f)?;
-        for (row, counts) in self.counts.iter().enumerate() {
-            write!(f, "{:9}", NAMES[row])?;
+        for ((letter, name), counts) in ROWS.iter().zip(&self.counts) {
+            write!(f, "{name:10}")?;
             for (column, count) in counts.iter().enumerate().take(18) {
                 let width = if column == 0 { 8 } else { 7 };
-                match (reachable(row, column), count) {
+                match (reachable(*letter, column), count) {
                     (false, 0) => write!(f, " {:>width$}", ".")?,
                     _ => write!(f, " {count:>width$}")?,
                 }

@@ -2,42 +2,41 @@
 
 use std::cell::Cell;
 
-use common::layout::{memory_words, table_words, Entry};
+use common::layout::{memory_words, table_words};
 use compare::monitor::{Monitor, Second};
 use compare::report::Report;
 use compare::run::{CALLS, SEED};
 use compare::sequences;
 use compare::table::Table;
-use second::{Answer, Call};
+use second::{Answer, Reply, Request};
 
-use crate::monitors::Planted;
-use crate::{changes, refusals};
+use crate::{changes, pages, refusals};
 
 /// What is found when the fault stands on this side.
-fn found(fault: &Planted, side: usize) -> Option<Box<Report>> {
+fn found(fault: &dyn Monitor, side: usize) -> Option<Box<Report>> {
     let mut monitors: [&dyn Monitor; 2] = [&Second, &Second];
     monitors[side] = fault;
     sequences::compare(monitors, SEED, CALLS / 2, &mut Table::new()).err()
 }
 
 /// What is wrong with what was found, if anything is.
-fn complaint(fault: &Planted, report: &Report) -> Option<String> {
+fn complaint(fault: &dyn Monitor, report: &Report) -> Option<String> {
     let (table, memory) = report.words();
     // a fault of a size shows at that size alone
-    let sized = fault.name.contains(",");
-    let small = report.case.calls.len() == 1
+    let sized = fault.name().contains(",");
+    let small = report.case.requests.len() == 1
         && table <= 6
         && memory <= 3
         && (sized || report.case.start.n() <= 4 && report.case.start.m() <= 4)
         && report.to_string().lines().count() <= 25;
-    (!small).then(|| format!("not small: {}\n{report}", fault.name))
+    (!small).then(|| format!("not small: {}\n{report}", fault.name()))
 }
 
-fn all_are_found(faults: &[Planted]) {
+fn all_are_found<Fault: Monitor>(faults: &[Fault]) {
     let mut complaints = Vec::new();
     for (number, fault) in faults.iter().enumerate() {
         match found(fault, number % 2) {
-            None => complaints.push(format!("not found: {}", fault.name)),
+            None => complaints.push(format!("not found: {}", fault.name())),
             Some(report) => complaints.extend(complaint(fault, &report)),
         }
     }
@@ -54,6 +53,11 @@ fn faults_in_changes_are_found() {
     all_are_found(&changes::FAULTS);
 }
 
+#[test]
+fn faults_in_whole_pages_are_found() {
+    all_are_found(&pages::FAULTS);
+}
+
 /// A monitor that keeps something between calls, as no monitor may: it goes wrong at one call, and never again.
 struct Once(Cell<u64>);
 
@@ -62,11 +66,11 @@ impl Monitor for Once {
         "once"
     }
 
-    fn make(&self, call: &Call, table: &mut [u64], memory: &mut [u64]) -> Answer {
+    fn reply<'m>(&self, request: &Request, table: &mut [u64], memory: &'m mut [u64]) -> Reply<'m> {
         self.0.set(self.0.get() + 1);
-        match call.make(table, memory) {
-            _ if self.0.get() == 1000 => Answer::Refused(1),
-            answer => answer,
+        match Second.reply(request, table, memory) {
+            _ if self.0.get() == 1000 => Reply::Answer(Answer::Refused(1)),
+            reply => reply,
         }
     }
 }
@@ -87,15 +91,43 @@ fn a_fault_that_does_not_show_again_is_told() {
 fn a_report_says_all_of_it() {
     let fault = &changes::FAULTS[0];
     assert_eq!(fault.name, "PMERGE leaves the merged entry as it was");
-    let report = found(fault, 0).expect("the fault is found").to_string();
+    let report = found(fault, 0).expect("the fault is found");
     let (table, memory) = (table_words(3), memory_words(3));
+    let start = report.case.start.table.iter().enumerate();
+    let set = start.filter(|(_, &word)| word != 0);
+    let words: Vec<String> = set
+        .map(|(position, word)| format!("    t[{position}] = {word:x}\n"))
+        .collect();
     for part in [
         &format!("table of {table} words, memory of {memory};"),
-        &format!("    t[0] = {:x}\n", Entry::fixed(1, 0).words()[0]),
+        &words.concat(),
         "calls:\n    M 0 ",
         "    second: done\n",
         "    after it t[",
     ] {
+        let report = report.to_string();
         assert!(report.contains(part), "{part:?} is not in\n{report}");
     }
+}
+
+/// And where it is about whole pages.
+#[test]
+fn a_report_says_what_a_page_was() {
+    let (next, last) = (&pages::FAULTS[0], &pages::FAULTS[4]);
+    assert_eq!(next.name, "page_read hands back the next frame");
+    let report = found(next, 0).expect("the fault is found").to_string();
+    let lines = [
+        "calls:\n    page_read 0 0 0\n",
+        "    page_read hands back the next frame: hands back 512 words from m[512*1 + 0] on\n",
+        "    second: hands back 512 words from m[512*0 + 0] on\n",
+    ];
+    assert!(lines.iter().all(|line| report.contains(line)), "{report}");
+
+    assert_eq!(last.name, "page_write writes all words but the last");
+    let report = found(last, 1).expect("the fault is found").to_string();
+    let lines = [
+        "calls:\n    page_write 0 0 0, 512 words, [511] = ",
+        "    after it m[512*0 + 511]: second ",
+    ];
+    assert!(lines.iter().all(|line| report.contains(line)), "{report}");
 }

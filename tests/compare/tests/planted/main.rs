@@ -6,6 +6,7 @@ mod changes;
 mod found;
 mod ledger;
 mod monitors;
+mod pages;
 mod refusals;
 mod scripts;
 mod tables;

@@ -3,12 +3,12 @@
 use std::ops::Range;
 
 use common::layout::{self, frame_at, frame_of, word_at, Entry};
-use compare::monitor::Monitor;
-use second::{Answer, Call};
+use compare::monitor::{Monitor, Second};
+use second::{Answer, Call, Reply, Request};
 
 type Make = fn(&Call, &mut [u64], &mut [u64]) -> Answer;
 
-/// A monitor by what it makes of a call.
+/// A monitor by what it makes of a call. For whole pages it is the second program.
 pub struct Planted {
     pub name: &'static str,
     pub make: Make,
@@ -19,8 +19,11 @@ impl Monitor for Planted {
         self.name
     }
 
-    fn make(&self, call: &Call, table: &mut [u64], memory: &mut [u64]) -> Answer {
-        (self.make)(call, table, memory)
+    fn reply<'m>(&self, request: &Request, table: &mut [u64], memory: &'m mut [u64]) -> Reply<'m> {
+        match request {
+            Request::Call(call) => Reply::Answer((self.make)(call, table, memory)),
+            _ => Second.reply(request, table, memory),
+        }
     }
 }
 

@@ -3,9 +3,10 @@
 use compare::monitor::{Monitor, Proved, Second};
 use compare::program::second;
 use compare::run::{run, Run};
-use second::{Answer, Call};
+use second::{page_check, Answer, Call};
 
 use crate::monitors::Planted;
+use crate::pages::{Fault, PlantedPage};
 
 /// A run in which this monitor stands on both sides, so that there is no difference.
 fn run_of(monitor: &dyn Monitor) -> Run {
@@ -16,7 +17,7 @@ fn run_of(monitor: &dyn Monitor) -> Run {
 fn a_run_without_faults_passes() {
     let run = run([&second, &second], [&Proved, &Second], 3, 100_000);
     assert!(run.passed, "{}", run.printed);
-    let last = "100000 calls, seed 3, 0 differences, 90 cells reached\n";
+    let last = "100000 calls, seed 3, 0 differences, 108 cells reached\n";
     assert!(run.printed.ends_with(last), "{}", run.printed);
 }
 
@@ -45,6 +46,21 @@ fn an_empty_cell_fails() {
         "{}",
         run.printed
     );
+}
+
+#[test]
+fn an_empty_cell_of_whole_pages_fails() {
+    let run = run_of(&PlantedPage {
+        name: "page_check gives 6 for an entry that is not well formed",
+        fault: Fault::Check(|[caller, gpa, hpa], table, memory| {
+            match page_check(table, memory, caller, gpa, hpa) {
+                Answer::Refused(5) => Answer::Refused(6),
+                answer => answer,
+            }
+        }),
+    });
+    let cell = "never met: page_check refused with 5";
+    assert!(!run.passed && run.printed.contains(cell), "{}", run.printed);
 }
 
 #[test]

@@ -1,0 +1,146 @@
+//! A request: one of the nine calls, or one for a whole page. Its numbers, as a list; and requests for the state at hand.
+
+use std::fmt;
+
+use second::Request;
+
+use crate::arguments::{self, Kind};
+use crate::guided;
+use crate::pages;
+use crate::random::Random;
+use crate::state::State;
+
+/// Of a hundred requests, so many are for a whole page.
+const PAGES: u64 = 10;
+
+/// How many words of a page are printed.
+const PRINTED: usize = 8;
+
+/// A request as it is printed.
+pub struct Shown<'a>(pub &'a Request);
+
+/// The letter of a call, as scripts have it; whole pages have small letters, which scripts do not know.
+pub fn letter(request: &Request) -> char {
+    match request {
+        Request::Call(call) => call.letter(),
+        Request::PageRead { .. } => 'r',
+        Request::PageWrite { .. } => 'w',
+        Request::PageCheck { .. } => 'c',
+    }
+}
+
+/// What the numbers of a request are. The words of a page are none of them.
+pub fn kinds(request: &Request) -> &'static [Kind] {
+    match request {
+        Request::Call(call) => arguments::kinds(call.letter()),
+        _ => &pages::KINDS,
+    }
+}
+
+#[rustfmt::skip]
+pub fn numbers(request: &Request) -> Vec<u64> {
+    match *request {
+        Request::Call(ref call) => arguments::numbers(call),
+        Request::PageRead { caller, gpa, hpa }
+        | Request::PageWrite { caller, gpa, hpa, .. }
+        | Request::PageCheck { caller, gpa, hpa } => vec![caller, gpa, hpa],
+    }
+}
+
+/// The same request with other numbers, as many as it has.
+#[rustfmt::skip]
+pub fn with_numbers(request: &Request, numbers: &[u64]) -> Request {
+    match (request, numbers) {
+        (Request::Call(call), _) => Request::Call(arguments::call(call.letter(), numbers)),
+        (Request::PageRead { .. }, &[caller, gpa, hpa]) => Request::PageRead { caller, gpa, hpa },
+        (Request::PageCheck { .. }, &[caller, gpa, hpa]) => Request::PageCheck { caller, gpa, hpa },
+        (Request::PageWrite { words, .. }, &[caller, gpa, hpa]) =>
+            Request::PageWrite { caller, gpa, hpa, words: words.clone() },
+        _ => panic!("no request for a page has {} numbers", numbers.len()),
+    }
+}
+
+/// Any request, with numbers that fit their kinds by and large.
+pub fn any(random: &mut Random, state: &State) -> Request {
+    match random.chance(PAGES) {
+        true => pages::any(random, state),
+        false => Request::Call(arguments::any(random, state)),
+    }
+}
+
+/// A request for this state, as meant; or, in so many cases of a hundred, with numbers changed.
+pub fn guided(random: &mut Random, state: &State, distorted: u64) -> Request {
+    match random.chance(PAGES) {
+        true => pages::guided(random, state, distorted),
+        false => Request::Call(guided::call(random, state, distorted)),
+    }
+}
+
+impl fmt::Display for Shown<'_> {
+    #[rustfmt::skip]
+    fn fmt(&self, f: &mut fmt::Formatter<'_>) -> fmt::Result {
+        match self.0 {
+            Request::Call(call) => write!(f, "{call}"),
+            Request::PageRead { caller, gpa, hpa } =>
+                write!(f, "page_read {caller:x} {gpa:x} {hpa:x}"),
+            Request::PageCheck { caller, gpa, hpa } =>
+                write!(f, "page_check {caller:x} {gpa:x} {hpa:x}"),
+            Request::PageWrite { caller, gpa, hpa, words } => {
+                write!(f, "page_write {caller:x} {gpa:x} {hpa:x}, {} words", words.len())?;
+                print_words(f, words)
+            }
+        }
+    }
+}
+
+/// The words of a page that are not zero.
+fn print_words(f: &mut fmt::Formatter<'_>, words: &[u64]) -> fmt::Result {
+    let set = words.iter().enumerate().filter(|(_, &word)| word != 0);
+    for (index, word) in set.clone().take(PRINTED) {
+        write!(f, ", [{index}] = {word:x}")?;
+    }
+    match set.count().saturating_sub(PRINTED) {
+        0 => Ok(()),
+        more => write!(f, " and {more} more"),
+    }
+}
+
+#[cfg(test)]
+mod tests {
+    use super::*;
+    use crate::arguments::LETTERS;
+
+    #[test]
+    fn a_request_is_its_letter_and_numbers() {
+        let mut random = Random::new(3);
+        let state = State::zero(8, 10);
+        let mut met = Vec::new();
+        for _ in 0..1000 {
+            let request = any(&mut random, &state);
+            met.push(letter(&request));
+            let same = with_numbers(&request, &numbers(&request));
+            assert_eq!(same, request);
+            assert_eq!(numbers(&request).len(), kinds(&request).len());
+            let other: Vec<u64> = kinds(&request).iter().map(|_| random.word()).collect();
+            assert_eq!(numbers(&with_numbers(&request, &other)), other);
+        }
+        for letter in LETTERS.into_iter().chain(['r', 'w', 'c']) {
+            assert!(met.contains(&letter), "{letter}");
+        }
+    }
+
+    #[test]
+    fn a_page_is_printed_by_its_words() {
+        let mut words = vec![0; 512];
+        (words[1], words[511]) = (0x2a, 1);
+        let [caller, gpa, hpa] = [7, 0x50000, 0x1000];
+        #[rustfmt::skip]
+        let request = Request::PageWrite { caller, gpa, hpa, words };
+        let shown = "page_write 7 50000 1000, 512 words, [1] = 2a, [511] = 1";
+        assert_eq!(Shown(&request).to_string(), shown);
+        #[rustfmt::skip]
+        let request = Request::PageWrite { caller, gpa, hpa, words: vec![1; 511] };
+        let shown = Shown(&request).to_string();
+        assert!(shown.contains("511 words, [0] = 1") && shown.ends_with("[7] = 1 and 503 more"));
+    }
+}
