@@ -1,5 +1,5 @@
-//! The nine calls as values that either side makes. Arguments go through `black_box` one by one: a side gets them as any caller passes
-//! them, each for itself, and can't know anything about them.
+//! The nine calls, and the check of a whole page, as values that either side makes. Arguments go through `black_box` one by one: a side
+//! gets them as any caller passes them, each for itself, and can't know anything about them.
 
 use std::hint::black_box;
 
@@ -59,3 +59,4 @@ call!(Punfix = punfix(caller, hpa));
 call!(Read = read(caller, gpa, hpa, gtype, ntype, index));
 call!(Write = write(caller, gpa, hpa, gtype, ntype, index, value));
 call!(Census = census(asid));
+call!(PageCheck = page_check(caller, gpa, hpa));

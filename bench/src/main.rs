@@ -10,6 +10,8 @@ mod chart;
 mod frames;
 mod loops;
 mod meter;
+mod page_calls;
+mod pages;
 mod random;
 mod report;
 mod results;

@@ -3,6 +3,7 @@
 use crate::cases::{Case, ACCEPTED, REFUSED, SPREAD};
 use crate::loops::{Loop, LOOPS};
 use crate::meter::{Meter, Samples};
+use crate::pages::PAGES;
 
 /// The sizes that the tables show: N.
 pub const SIZES: [usize; 3] = [8, 512, 4096];
@@ -26,6 +27,7 @@ pub struct Results {
     pub accepted: Vec<Row<Case>>,
     pub refused: Vec<Row<Case>>,
     pub spread: Vec<Row<Case>>,
+    pub pages: Vec<Row<Loop>>,
     pub loops: Vec<Row<Loop>>,
 }
 
@@ -36,6 +38,7 @@ impl Results {
             accepted: rows(&ACCEPTED, &GROWTH),
             refused: rows(&REFUSED, &SIZES),
             spread: rows(&SPREAD, &[GREATEST]),
+            pages: rows(&PAGES, &[L2]), // so many that one run of the faster side can be timed
             loops: rows(&LOOPS, &[L1, L2]),
         };
         for pass in 1..=meter.passes {
@@ -44,7 +47,7 @@ impl Results {
             for row in calls.chain(&mut results.refused).chain(&mut results.spread) {
                 row.samples.extend((row.what.measure)(meter, row.size));
             }
-            for row in &mut results.loops {
+            for row in results.pages.iter_mut().chain(&mut results.loops) {
                 row.samples.extend((row.what.measure)(meter, row.size));
             }
         }
@@ -73,12 +76,12 @@ impl Samples {
 }
 
 impl<What> Row<What> {
-    /// Our time of one call, in nanoseconds.
+    /// Our time of one call, or of the one call where all is ours, in nanoseconds.
     pub fn ours(&self) -> f64 {
         quantile(self.samples.ours.clone(), 0.5)
     }
 
-    /// The second implementation's time of one call.
+    /// The time of what it is held against: the second implementation's, mostly.
     pub fn second(&self) -> f64 {
         quantile(self.samples.second.clone(), 0.5)
     }

@@ -5,6 +5,7 @@ mod assignment;
 mod census;
 mod fixing;
 mod merging;
+mod pages;
 mod refused;
 mod spread;
 mod tables;
@@ -33,7 +34,7 @@ macro_rules! case {
 const TURNS: usize = 32;
 
 /// Accepted calls, on warm frames.
-pub const ACCEPTED: [Case; 14] = [
+pub const ACCEPTED: [Case; 17] = [
     case!(
         "RMPUPDATE, the ASID stays",
         Expect::Accepted,
@@ -60,10 +61,13 @@ pub const ACCEPTED: [Case; 14] = [
     case!("WRITE, own page", Expect::Accepted, access::write_own),
     case!("CENSUS, uniform table", Expect::Accepted, census::uniform),
     case!("CENSUS, mixed table", Expect::Accepted, census::mixed),
+    case!("page_check", Expect::Accepted, pages::check),
+    case!("page_read", Expect::Accepted, pages::read),
+    case!("page_write", Expect::Accepted, pages::write),
 ];
 
 /// Refused calls, on warm frames.
-pub const REFUSED: [Case; 11] = [
+pub const REFUSED: [Case; 15] = [
     case!(
         "PMERGE, 16: the last word differs",
         Expect::Refused(16),
@@ -83,6 +87,14 @@ pub const REFUSED: [Case; 11] = [
     case!("READ, 3", Expect::Refused(3), refused::read),
     case!("WRITE, 3", Expect::Refused(3), refused::write),
     case!("CENSUS, 2", Expect::Refused(2), refused::census),
+    case!("page_check, 6", Expect::Refused(6), pages::check_owned),
+    case!("page_read, 6", Expect::Refused(6), pages::read_owned),
+    case!("page_write, 6", Expect::Refused(6), pages::write_owned),
+    case!(
+        "page_write, 2: a run of 511 words",
+        Expect::Refused(2),
+        pages::write_short
+    ),
 ];
 
 /// Accepted calls, each on another frame, over all frames of the table in random order.

@@ -19,6 +19,7 @@ pub fn rewrite(meter: &Meter, results: &Results) -> io::Result<()> {
         ("accepted", tables::accepted(results)),
         ("refused", tables::refused(results)),
         ("spread", tables::spread(results)),
+        ("pages", tables::pages(results)),
         ("growth", tables::growth(results)),
         ("loops", tables::loops(results)),
     ];

@@ -9,9 +9,11 @@ pub fn nanoseconds(time: f64) -> String {
     }
 }
 
-/// A ratio: hundredths below ten.
+/// A ratio: hundredths below ten, and more digits where there would be none.
 pub fn ratio(ratio: f64) -> String {
-    if ratio < 9.95 {
+    if ratio < 0.095 {
+        format!("{ratio:.4}")
+    } else if ratio < 9.95 {
         format!("{ratio:.2}")
     } else {
         format!("{ratio:.0}")
@@ -47,6 +49,7 @@ mod tests {
     fn small_numbers_have_decimals() {
         assert_eq!(nanoseconds(6.24), "6.2");
         assert_eq!(nanoseconds(34_427.4), "34,427");
+        assert_eq!(ratio(0.0021), "0.0021");
         assert_eq!(ratio(0.984), "0.98");
         assert_eq!(ratio(31.2), "31");
     }

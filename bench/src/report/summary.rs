@@ -4,6 +4,7 @@ use std::fmt::Display;
 
 use super::machine::facts;
 use super::numbers::{nanoseconds, ratio, thousands};
+use crate::loops::Loop;
 use crate::meter::Meter;
 use crate::results::{Results, Row};
 
@@ -20,30 +21,36 @@ pub fn summary(meter: &Meter, results: &Results) -> String {
         ("accepted, spread over all frames", &results.spread),
     ];
     for (title, rows) in calls {
-        text += &heading(title);
+        text += &heading(title, "Rust");
         for row in rows {
             let n = thousands(row.size as u64);
             text += &line(format!("{}, N = {n}", row.what.name), row);
         }
     }
-    text += &heading("frame loops");
-    for row in &results.loops {
-        let name = format!("{}, {}", row.what.name, row.what.against).replace('`', "");
-        text += &line(format!("{name}, {} frames", row.size), row);
-    }
+    text += &heading("frame loops", "Rust");
+    text += &loops(&results.loops);
+    text += &heading("one call for a page, against other calls", "other");
+    text += &loops(&results.pages);
     text
 }
 
-fn heading(title: &str) -> String {
-    let columns = ["ours", "Rust", "loop", "ratio", "half of the pairs"];
-    let [ours, second, alone, ratio, middle] = columns;
-    format!("\n{title:<52}{ours:>9}{second:>9}{alone:>6}{ratio:>7}   {middle}\n")
+fn loops(rows: &[Row<Loop>]) -> String {
+    let named = |row: &Row<Loop>| {
+        let name = format!("{}, {}", row.what.name, row.what.against).replace('`', "");
+        line(format!("{name}, {} frames", row.size), row)
+    };
+    rows.iter().map(named).collect()
+}
+
+fn heading(title: &str, second: &str) -> String {
+    let [ours, alone, ratio, middle] = ["ours", "loop", "ratio", "half of the pairs"];
+    format!("\n{title:<60}{ours:>9}{second:>9}{alone:>6}{ratio:>7}   {middle}\n")
 }
 
 fn line<What>(name: impl Display, row: &Row<What>) -> String {
     let (low, high) = row.middle();
     format!(
-        "{name:<52}{:>9}{:>9}{:>6}{:>7}   {} to {}\n",
+        "{name:<60}{:>9}{:>9}{:>6}{:>7}   {} to {}\n",
         nanoseconds(row.ours()),
         nanoseconds(row.second()),
         nanoseconds(row.alone()),

@@ -91,6 +91,22 @@ pub fn growth(results: &Results) -> String {
     table
 }
 
+/// One call for a page, against other calls.
+pub fn pages(results: &Results) -> String {
+    let heads = "| One SHARED page | ns | Against | ns | ratio |\n|---|---|---|---|---|\n";
+    let mut table = heads.to_string();
+    for row in &results.pages {
+        table += &line(&[
+            row.what.name.to_string(),
+            nanoseconds(row.ours()),
+            row.what.against.to_string(),
+            nanoseconds(row.second()),
+            ratio(row.ratio()),
+        ]);
+    }
+    table
+}
+
 /// The frame loops.
 pub fn loops(results: &Results) -> String {
     let mut table = "| One frame of 512 words | Against | L1, ns | Rust, ns | ours / Rust | L2, ns | Rust, ns | ours / Rust |\n\
