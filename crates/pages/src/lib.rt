@@ -2,8 +2,10 @@
 // may ask for them, and each guest. Each function promises two things: the reply, and table and memory after it, are the rule's; and it is
 // a request of a run, so that demand 3 is kept by every run of them.
 ghost use mathlib.Core.Path.{_≡_};
-ghost use Rattle.rules.specs.Answers.{Verdict};
-ghost use Rattle.rules.specs.State.{state};
+ghost use Rattle.rules.specs.Access.{reading, writing};
+ghost use Rattle.rules.specs.Answers.{Verdict, unless};
+ghost use Rattle.rules.specs.Refusals.{GEOMETRY, ARGUMENT};
+ghost use Rattle.rules.specs.State.{state, sized};
 ghost use Rattle.requests.specs.Asked.{asked};
 ghost use Rattle.requests.specs.Pages.{sharedAccess, pageRead, pageCheck, pageWrite};
 ghost use Rattle.requests.specs.Requests.{PAGE-READ, PAGE-WRITE, PAGE-CHECK, hands, response, telling};
@@ -22,17 +24,36 @@ use entries::entry::SHARED;
 use entries::entry::frame_of;
 use frames::frame;
 
-// The checks of READ or WRITE for a SHARED access to word 0.
-fn check(table: &[u64], memory: &[u64], writes: bool, caller: u64, gpa: u64, hpa: u64) -> Gate
+// The checks of a SHARED READ of word 0.
+fn may_read(table: &[u64], memory: &[u64], caller: u64, gpa: u64, hpa: u64) -> Gate
     ensures { λ g. ⌜ ((v : Verdict) → past g v
-        ≡ sharedAccess (state (now (table .entry)) (now (memory .entry))) writes caller gpa hpa v) ⌝ }
+        ≡ sharedAccess (state (now (table .entry)) (now (memory .entry))) reading caller gpa hpa v) ⌝ }
 {
     let begun = begun(table, memory, caller, gpa, hpa, SHARED, SHARED, 0);
     if let Gate::Shut(refusal) = begun {
         return Gate::Shut(refusal);
     }
-    let reached = reach(table, writes, hpa, SHARED);
-    allowed(table, memory, writes, caller, gpa, reached)
+    let reached = reach(table, READING, hpa, SHARED);
+    allowed(table, memory, READING, caller, gpa, reached)
+}
+
+// The checks of a SHARED WRITE to word 0, and before them 1, and 2 of the run. They are not made by one function with those of a READ: it
+// would be compiled into neither call.
+fn may_write(table: &[u64], memory: &[u64], caller: u64, gpa: u64, hpa: u64, whole: bool) -> Gate
+    ensures { λ g. ⌜ ((v : Verdict) → past g v
+        ≡ unless (sized (state (now (table .entry)) (now (memory .entry)))) GEOMETRY (unless whole ARGUMENT
+        (sharedAccess (state (now (table .entry)) (now (memory .entry))) writing caller gpa hpa v))) ⌝ }
+{
+    let given = begin_sized(table, memory, whole);
+    if let Gate::Shut(refusal) = given {
+        return Gate::Shut(refusal);
+    }
+    let begun = begun(table, memory, caller, gpa, hpa, SHARED, SHARED, 0);
+    if let Gate::Shut(refusal) = begun {
+        return Gate::Shut(refusal);
+    }
+    let reached = reach(table, WRITING, hpa, SHARED);
+    allowed(table, memory, WRITING, caller, gpa, reached)
 }
 
 // Whether the page at `hpa` may be read.
@@ -42,7 +63,7 @@ pub fn page_check(table: &[u64], memory: &[u64], caller: u64, gpa: u64, hpa: u64
     ensures { λ r. ⌜ Ruled (asked (PAGE-CHECK caller gpa hpa) (state (now (table .entry)) (now (memory .entry)))
         (telling (gave r (now (table .entry)) (now (memory .entry))))) ⌝ }
 {
-    let checked = check(table, memory, READING, caller, gpa, hpa);
+    let checked = may_read(table, memory, caller, gpa, hpa);
     if let Gate::Shut(refusal) = checked {
         return Answer::Refused(refusal);
     }
@@ -55,7 +76,7 @@ pub fn page_read<'a>(table: &[u64], memory: &'a [u64], caller: u64, gpa: u64, hp
     ensures { λ r. ⌜ Ruled (asked (PAGE-READ caller gpa hpa) (state (now (table .entry)) (now (memory .entry)))
         (response (hands (now r)) (state (now (table .entry)) (now (memory .entry))))) ⌝ }
 {
-    let checked = check(table, memory, READING, caller, gpa, hpa);
+    let checked = may_read(table, memory, caller, gpa, hpa);
     if let Gate::Shut(_) = checked {
         return &memory[..0];
     }
@@ -76,11 +97,7 @@ pub fn page_write(
     ensures { λ r. ⌜ Ruled (asked (PAGE-WRITE caller gpa hpa (now (words .entry))) (state (now (table .entry)) (now (memory .entry)))
         (telling (gave r (now (table .entry)) (now (memory .exit))))) ⌝ }
 {
-    let begun = begin_sized(table, memory, words.len() == 512);
-    if let Gate::Shut(refusal) = begun {
-        return Answer::Refused(refusal);
-    }
-    let checked = check(table, memory, WRITING, caller, gpa, hpa);
+    let checked = may_write(table, memory, caller, gpa, hpa, words.len() == 512);
     if let Gate::Shut(refusal) = checked {
         return Answer::Refused(refusal);
     }

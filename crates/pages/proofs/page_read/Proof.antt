@@ -9,8 +9,8 @@ use Rattle.pages.proofs.PageLaws.{handed-so}
 use Rattle.pages.proofs.page_read.Statement.{statement}
 use Rattle.pages.proofs.page_read.Tie as tie
 
-check-requires : tie.Need-check-requires
-check-requires c κs = search needs
+may-read-requires : tie.Need-may-read-requires
+may-read-requires c κs = search needs
 
 enum-told : tie.Need-enum-told
 enum-told c = search needs
@@ -20,7 +20,7 @@ slice-aggregate-result c = search needs
 
 returns : tie.Need-returns
 unfolding respond pageRead readable handed past
-returns c = handed-so (rw (← c .before .before .before .check .ensures, c .before .enum-told .given .1))
+returns c = handed-so (rw (← c .before .before .before .may-read .ensures, c .before .enum-told .given .1))
 
 enum-told-2 : tie.Need-enum-told-2
 enum-told-2 c = search needs
@@ -36,7 +36,7 @@ unfolding respond pageRead readable handed past frameAt
 returns-2 c =
     let at-frame-of = c .before in let at-open = at-frame-of .before in
     handed-so (rw (
-      ← at-open .before .before .check .ensures,
+      ← at-open .before .before .may-read .ensures,
       at-open .enum-told2 .given .1,
       ← at-frame-of .frame-of .ensures,
       ← c .part .ensures,
@@ -46,7 +46,7 @@ pub page-read-spec : {M : Type 1} → statement M
 page-read-spec =
     tie.close
     (tie.spec
-    check-requires
+    may-read-requires
     enum-told
     slice-aggregate-result
     returns

@@ -1,4 +1,4 @@
--- `pages::page_write` meets its contract: a shut gate is the rule's refusal, and past the open ones the rule is what is done.
+-- `pages::page_write` meets its contract: a shut gate is the rule's refusal, and past the open one the rule is what is done.
 -- Assumes nothing.
 use borrow.Author.Needs.{needs}
 use Rattle.rules.specs.Answers.{settle}
@@ -10,44 +10,21 @@ use Rattle.pages.proofs.PageLaws.{told-so}
 use Rattle.pages.proofs.page_write.Statement.{statement}
 use Rattle.pages.proofs.page_write.Tie as tie
 
-begin-sized-requires : tie.Need-begin-sized-requires
-begin-sized-requires c κs = search needs
+may-write-requires : tie.Need-may-write-requires
+may-write-requires c κs = search needs
 
-enum-known-begun : tie.Need-enum-known-begun
-enum-known-begun c = search needs
+enum-known-checked : tie.Need-enum-known-checked
+enum-known-checked c = search needs
 
 same-length : tie.Need-same-length
 same-length c = search needs
 
 returns : tie.Need-returns
 unfolding respond pageWrite settle past
-returns c = told-so (rw (← c .before .before .before .begin-sized .ensures, c .before .begun .given .1))
+returns c = told-so (rw (← c .before .before .before .may-write .ensures, c .before .checked .given .1))
 
 enum-told : tie.Need-enum-told
 enum-told c = search needs
-
-check-requires : tie.Need-check-requires
-check-requires c κs = search needs
-
-enum-known-checked : tie.Need-enum-known-checked
-enum-known-checked c = search needs
-
-same-length-2 : tie.Need-same-length-2
-same-length-2 c = search needs
-
-returns-2 : tie.Need-returns-2
-unfolding respond pageWrite settle past
-returns-2 c =
-    let at-check = c .before .before .before in let at-open = at-check .before .before in
-    told-so (rw (
-      ← at-open .before .before .begin-sized .ensures,
-      at-open .enum-told .given .1,
-      ← at-check .check .ensures,
-      c .before .checked .given .1,
-    ))
-
-enum-told-2 : tie.Need-enum-told-2
-enum-told-2 c = search needs
 
 frame-of-requires : tie.Need-frame-of-requires
 frame-of-requires c κs = search needs
@@ -55,19 +32,16 @@ frame-of-requires c κs = search needs
 put-requires : tie.Need-put-requires
 put-requires c κs = search needs
 
-same-length-3 : tie.Need-same-length-3
-same-length-3 c = search needs
+same-length-2 : tie.Need-same-length-2
+same-length-2 c = search needs
 
-returns-3 : tie.Need-returns-3
+returns-2 : tie.Need-returns-2
 unfolding respond pageWrite settle past withFrame
-returns-3 c =
-    let at-put = c .before .before in let at-frame-of = at-put .before in let at-allowed = at-frame-of .before .before in
-    let at-check = at-allowed .before .before in let at-open = at-check .before .before in
+returns-2 c =
+    let at-put = c .before .before in let at-frame-of = at-put .before in let at-open = at-frame-of .before .before in
     told-so (rw (
-      ← at-open .before .before .begin-sized .ensures,
+      ← at-open .before .before .may-write .ensures,
       at-open .enum-told .given .1,
-      ← at-check .check .ensures,
-      at-allowed .enum-told2 .given .1,
       ← at-frame-of .frame-of .ensures,
       ← at-put .put .ensures,
     ))
@@ -76,17 +50,12 @@ pub page-write-spec : {M : Type 1} → statement M
 page-write-spec =
     tie.close
     (tie.spec
-    begin-sized-requires
-    enum-known-begun
+    may-write-requires
+    enum-known-checked
     same-length
     returns
     enum-told
-    check-requires
-    enum-known-checked
-    same-length-2
-    returns-2
-    enum-told-2
     frame-of-requires
     put-requires
-    same-length-3
-    returns-3)
+    same-length-2
+    returns-2)

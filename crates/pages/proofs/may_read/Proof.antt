@@ -1,11 +1,11 @@
--- `pages::check` meets its contract: the rule is what the three parts of an access come to, for SHARED and word 0.
+-- `pages::may_read` meets its contract: the rule is what the three parts of an access come to, for a SHARED READ of word 0.
 -- Assumes nothing.
 use borrow.Author.Needs.{needs}
 use Rattle.requests.specs.Pages.{sharedAccess}
 use Rattle.checks.specs.Gate.{past}
 use Rattle.access.proofs.AccessLaws.{access-parts, access-checked}
-use Rattle.pages.proofs.check.Statement.{statement}
-use Rattle.pages.proofs.check.Tie as tie
+use Rattle.pages.proofs.may_read.Statement.{statement}
+use Rattle.pages.proofs.may_read.Tie as tie
 
 begun-requires : tie.Need-begun-requires
 begun-requires c κs = search needs
@@ -35,8 +35,8 @@ returns-2 c =
     (at-begun .begun .ensures) (at-reach .reach .ensures) (c .allowed .ensures) in
     λ v. rw (parts v, at-open .enum-told .given .1)
 
-pub check-spec : {M : Type 1} → statement M
-check-spec =
+pub may-read-spec : {M : Type 1} → statement M
+may-read-spec =
     tie.close
     (tie.spec
     begun-requires

@@ -1,0 +1,80 @@
+-- `pages::may_write` meets its contract: 1 and 2 of the run, and then the rule is what the three parts of an access come to, for a SHARED WRITE
+-- to word 0.
+-- Assumes nothing.
+use borrow.Author.Needs.{needs}
+use Rattle.requests.specs.Pages.{sharedAccess}
+use Rattle.checks.specs.Gate.{past}
+use Rattle.access.proofs.AccessLaws.{access-parts, access-checked}
+use Rattle.pages.proofs.may_write.Statement.{statement}
+use Rattle.pages.proofs.may_write.Tie as tie
+
+begin-sized-requires : tie.Need-begin-sized-requires
+begin-sized-requires c κs = search needs
+
+enum-known-given : tie.Need-enum-known-given
+enum-known-given c = search needs
+
+returns : tie.Need-returns
+unfolding past
+returns c = λ v. rw (← c .before .before .before .begin-sized .ensures, c .before .given .given .1)
+
+enum-told : tie.Need-enum-told
+enum-told c = search needs
+
+begun-requires : tie.Need-begun-requires
+begun-requires c κs = search needs
+
+enum-known-begun : tie.Need-enum-known-begun
+enum-known-begun c = search needs
+
+returns-2 : tie.Need-returns-2
+unfolding sharedAccess past
+returns-2 c =
+    let at-begun = c .before .before .before in let at-given = at-begun .before in
+    λ v. rw (
+      ← at-given .before .before .begin-sized .ensures,
+      at-given .enum-told .given .1,
+      access-parts,
+      ← at-begun .begun .ensures,
+      c .before .begun2 .given .1,
+    )
+
+enum-told-2 : tie.Need-enum-told-2
+enum-told-2 c = search needs
+
+reach-requires : tie.Need-reach-requires
+reach-requires c κs = search needs
+
+allowed-requires : tie.Need-allowed-requires
+allowed-requires c κs = search needs
+
+returns-3 : tie.Need-returns-3
+unfolding sharedAccess past
+returns-3 c =
+    let at-reach = c .before in let at-open = at-reach .before in let at-begun = at-open .before .before in
+    let at-given = at-begun .before in
+    let parts =
+    access-checked _ _ _ _ _ _ _ _ _ (at-begun .begun .result) (c .allowed .result) (at-reach .reach .result)
+    (at-begun .begun .ensures) (at-reach .reach .ensures) (c .allowed .ensures) in
+    λ v. rw (
+      ← at-given .before .before .begin-sized .ensures,
+      at-given .enum-told .given .1,
+      parts v,
+      at-open .enum-told2 .given .1,
+    )
+
+pub may-write-spec : {M : Type 1} → statement M
+may-write-spec =
+    tie.close
+    (tie.spec
+    begin-sized-requires
+    enum-known-given
+    returns
+    enum-told
+    begun-requires
+    enum-known-begun
+    returns-2
+    enum-told-2
+    reach-requires
+    allowed-requires
+    returns-3)
