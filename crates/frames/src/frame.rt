@@ -73,8 +73,7 @@ pub fn put(memory: &mut [u64], frame: usize, words: &[u64])
             let mut held = [0u64; 512];
             run::copy(&mut held, words);
             let start = 512 * frame;
-            let end = start + 512;
-            run::copy(&mut memory[start..end], &held);
+            run::copy(&mut memory[start..start + 512], &held);
         }
     }
 }

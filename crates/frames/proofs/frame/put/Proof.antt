@@ -20,8 +20,8 @@ copy-requires c κs = search needs
 mul-start : tie.Need-mul-start
 mul-start c = search needs
 
-add-end : tie.Need-add-end
-add-end c = search needs
+add-copy : tie.Need-add-copy
+add-copy c = search needs
 
 mul-copy : tie.Need-mul-copy
 mul-copy c = search needs
@@ -69,7 +69,7 @@ put-spec =
     slice-aggregate-copy
     copy-requires
     mul-start
-    add-end
+    add-copy
     mul-copy
     sub-copy
     part-copy-start
