@@ -1,12 +1,11 @@
 -- Demand 3 of lists of requests: to table and memory they are calls of 01, of which demand 3 holds, and those that are left out of the count
 -- are no events.
 -- Assumes nothing.
-use mathlib.Core.Path.{_≡_, subst}
+use mathlib.Core.Path.{subst}
 use mathlib.Core.List.{List}
-use Prim.Native.Nat.{ℕ}
 use Rattle.rules.specs.History.{NoCounterGoesBack}
 use Rattle.rules.specs.State.{State, emptyTable}
-use Rattle.rules.proofs.History.{empty-sound, no-counter-goes-back}
+use Rattle.rules.proofs.History.{no-counter-goes-back}
 use Rattle.rules.proofs.HistoryFrom.{finally-sound}
 use Rattle.rules.proofs.Sound.{Sound}
 use Rattle.requests.specs.Asked.{afterwards, RequestsDemand3}

@@ -1,7 +1,7 @@
 -- From an empty table no request is refused with 5 or 12: in a sound state no call of 01 is, and a page's number is that of a READ or WRITE.
 -- Assumes nothing.
-use mathlib.Core.Path.{_≡_, refl, sym, ap, _∙_}
-use mathlib.Core.Bool.{true, false, false≢true}
+use mathlib.Core.Path.{_≡_, refl, ap}
+use mathlib.Core.Bool.{false, false≢true}
 use mathlib.Core.List.{List, [], _∷_, _++_}
 use mathlib.Core.Logic.{_≢_, ⊎-elim}
 use Prim.Native.Nat.{ℕ}
@@ -13,7 +13,7 @@ use Rattle.rules.specs.Answers.{Told, refused}
 use Rattle.rules.specs.Calls.{Call, READ, WRITE, step}
 use Rattle.rules.specs.History.{history}
 use Rattle.rules.specs.Refusals.{BAD-ENTRY, BROKEN-LEAF}
-use Rattle.rules.specs.State.{State, emptyTable, sized}
+use Rattle.rules.specs.State.{State, sized}
 use Rattle.rules.proofs.History.{empty-sound}
 use Rattle.rules.proofs.Never.{sound-never}
 use Rattle.rules.proofs.Sound.{Sound}

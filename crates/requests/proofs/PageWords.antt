@@ -6,17 +6,16 @@ use mathlib.Core.Bool.{Bool, true, false, false≢true}
 use mathlib.Core.List.{List, [], _∷_, _++_}
 use Prim.Native.Nat.{ℕ, suc, _+_, _≤_, _<_}
 use native.Mathlib.Omega.{arith}
-use lib.Dec.{eqb}
-use lib.ListN.{length, getD}
+use lib.ListN.{length}
 use borrow.Author.Tests.{eq-eqb, ne-eqb}
 use Rattle.words.specs.Choice.{pick}
 use Rattle.entries.specs.Entry.{SHARED, frameOf}
-use Rattle.rules.specs.Access.{reading, read, write}
+use Rattle.rules.specs.Access.{read, write}
 use Rattle.rules.specs.Answers.{Told, refused, done, word, Outcome, outcome, Verdict, refuse, grant, settle, unless}
 use Rattle.rules.specs.Calls.{WRITE, step}
 use Rattle.rules.specs.History.{Made, made, history, finally}
 use Rattle.rules.specs.Refusals.{GEOMETRY, ARGUMENT}
-use Rattle.rules.specs.State.{State, M, sized, frameAt, wordAt, withWord, withFrame}
+use Rattle.rules.specs.State.{State, M, sized, wordAt, withWord, withFrame}
 use Rattle.rules.proofs.StateLaws.{frame-has, withWords, frame-by-words, size-word, entry-after-word}
 use Rattle.requests.specs.Pages.{sharedAccess, readable, handed, pageRead, pageCheck, pageWrite}
 use Rattle.requests.specs.PageWords.{PageIsReads, whole, empty, PageReadIsReads, writes, PageIsWrites, PageWriteIsWrites, UnfitIsArgument}

@@ -1,14 +1,13 @@
 -- Calls that are no events, left out of a list: what is claimed of the whole list holds of what is left. They open and close nothing, and
 -- write nothing of a guest's.
 -- Assumes nothing.
-use mathlib.Core.Path.{_≡_, refl, sym, ap, _∙_}
+use mathlib.Core.Path.{_≡_, refl, ap, _∙_}
 use mathlib.Core.Bool.{false≢true}
 use mathlib.Core.List.{List, [], _∷_, _++_}
 use Prim.Native.Nat.{ℕ}
 use native.Mathlib.Omega.{arith}
 use Rattle.words.specs.Choice.{pick}
 use Rattle.entries.specs.Entry.{bit}
-use Rattle.rules.specs.Answers.{word}
 use Rattle.rules.specs.History.{Made, noEvent, event, isOpening, isClosing, openings, closings, written, lastWrite, NoCounterGoesBack}
 use Rattle.rules.specs.State.{State, wordAt}
 

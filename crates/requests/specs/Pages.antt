@@ -14,10 +14,11 @@ use Rattle.rules.specs.State.{State, sized, frameAt, withFrame}
 unfoldable pub sharedAccess : State → Bool → ℕ → ℕ → ℕ → Verdict → Verdict
 sharedAccess s writes caller gpa hpa rest = access s writes caller gpa hpa SHARED SHARED 0 rest
 
+-- what the checks of a reading come to: it changes nothing
 unfoldable pub readable : State → ℕ → ℕ → ℕ → Verdict
 readable s caller gpa hpa = sharedAccess s reading caller gpa hpa (grant done s)
 
--- what a reading hands back: "A refused reading hands back an empty part"
+-- "A refused reading hands back an empty part"
 unfoldable pub handed : Verdict → List ℕ → List ℕ
 handed (refuse number) part = []
 handed (grant answer after) part = part
@@ -26,14 +27,14 @@ handed (grant answer after) part = part
 unfoldable pub pageRead : State → ℕ → ℕ → ℕ → List ℕ
 pageRead s caller gpa hpa = handed (readable s caller gpa hpa) (frameAt s (frameOf hpa))
 
--- "a third call only checks it and answers the number, or 0": `done` stands for the 0
-unfoldable pub pageCheck : State → ℕ → ℕ → ℕ → Outcome
-pageCheck s caller gpa hpa = settle s (readable s caller gpa hpa)
-
--- "a second call writes 512 given words to it"; "a written run that is not 512 words is 2", which is one of the first 2s: after 1
+-- "a second call writes 512 given words to it"; "a written run that is not 512 words is 2". That is one of the 2s, which come after 1.
 unfoldable pub pageWrite : State → ℕ → ℕ → ℕ → List ℕ → Outcome
 pageWrite s caller gpa hpa words =
     settle s
     (unless (sized s) GEOMETRY
     (unless (eqb (length words) 512) ARGUMENT
     (sharedAccess s writing caller gpa hpa (grant done (withFrame s (frameOf hpa) words)))))
+
+-- "a third call only checks it and answers the number, or 0": `done` stands for the 0
+unfoldable pub pageCheck : State → ℕ → ℕ → ℕ → Outcome
+pageCheck s caller gpa hpa = settle s (readable s caller gpa hpa)
