@@ -27,7 +27,7 @@ use frames::frame;
 use rmp::table;
 
 // Whether table and memory have the sizes that the rules ask for.
-fn sizes_hold(table: &[u64], memory: &[u64]) -> bool
+pub fn sizes_hold(table: &[u64], memory: &[u64]) -> bool
     ensures { λ r. ⌜ r ≡ sized (state (now (table .entry)) (now (memory .entry))) ⌝ }
 {
     let frames = frame::count(memory);
@@ -172,21 +172,13 @@ pub fn begin_access(
     begin(table, memory, given, party, inside)
 }
 
-// 1, and then 2 by the given test. CENSUS begins with these alone, and the writing of a whole page with these before all others.
-pub fn begin_sized(table: &[u64], memory: &[u64], given: bool) -> Gate
-    ensures { λ g. ⌜ ((v : Verdict) → past g v
-        ≡ unless (sized (state (now (table .entry)) (now (memory .entry)))) GEOMETRY (unless given ARGUMENT v)) ⌝ }
-{
-    Gate::Open
-        .and_then(sizes_hold(table, memory), Refusal::Geometry)
-        .and_then(given, Refusal::Argument)
-}
-
 // CENSUS has no caller and names no frame.
 pub fn begin_census(table: &[u64], memory: &[u64], asid: u64) -> Gate
     ensures { λ g. ⌜ ((v : Verdict) → past g v
         ≡ unless (sized (state (now (table .entry)) (now (memory .entry)))) GEOMETRY
         (unless (isGuest asid) ARGUMENT v)) ⌝ }
 {
-    begin_sized(table, memory, is_guest(asid))
+    Gate::Open
+        .and_then(sizes_hold(table, memory), Refusal::Geometry)
+        .and_then(is_guest(asid), Refusal::Argument)
 }

@@ -18,7 +18,8 @@ use access::check::allowed;
 use access::check::begun;
 use access::check::reach;
 use checks::answer::Answer;
-use checks::begin::begin_sized;
+use checks::answer::Refusal;
+use checks::begin::sizes_hold;
 use checks::gate::Gate;
 use entries::entry::SHARED;
 use entries::entry::frame_of;
@@ -44,7 +45,9 @@ fn may_write(table: &[u64], memory: &[u64], caller: u64, gpa: u64, hpa: u64, who
         ≡ unless (sized (state (now (table .entry)) (now (memory .entry)))) GEOMETRY (unless whole ARGUMENT
         (sharedAccess (state (now (table .entry)) (now (memory .entry))) writing caller gpa hpa v))) ⌝ }
 {
-    let given = begin_sized(table, memory, whole);
+    let given = Gate::Open
+        .and_then(sizes_hold(table, memory), Refusal::Geometry)
+        .and_then(whole, Refusal::Argument);
     if let Gate::Shut(refusal) = given {
         return Gate::Shut(refusal);
     }
