@@ -11,9 +11,10 @@ use borrow.Author.Tests.{eqb-true, eqb-false}
 use Rattle.words.specs.Choice.{pick, _or_}
 use Rattle.words.proofs.ChoiceLaws.{pick-either, true-or-false, pick-true, pick-false}
 use Rattle.entries.specs.Entry.{isOwned}
-use Rattle.rules.specs.Calls.{Call, step}
-use Rattle.rules.specs.History.{made, history, finally, eventOf, event}
+use Rattle.rules.specs.Calls.{Call}
+use Rattle.rules.specs.History.{history, finally, eventOf, event}
 use Rattle.rules.specs.State.{State}
+use Rattle.rules.proofs.HistoryLists.{history-append, finally-append}
 use Rattle.requests.specs.Asked.{requested, afterwards, countsAs, counted}
 use Rattle.requests.specs.Pages.{pageCheck}
 use Rattle.requests.specs.PageWords.{PageIsReads, whole, empty, writes}
@@ -64,16 +65,6 @@ calls-count s (PAGE-WRITE caller gpa hpa words) =
 calls-count s (PAGE-CHECK caller gpa hpa) = none
 
 -- ---- lists
-history-append : (s : State) (a b : List Call) → history s (a ++ b) ≡ history s a ++ history (finally s a) b
-unfolding history finally
-history-append s [] b = refl
-history-append s (call ∷ a) b = ap (λ l. made call s (step s call) ∷ l) (history-append (step s call .after) a b)
-
-finally-append : (s : State) (a b : List Call) → finally s (a ++ b) ≡ finally (finally s a) b
-unfolding finally
-finally-append s [] b = refl
-finally-append s (call ∷ a) b = finally-append (step s call .after) a b
-
 pub all-leave : (s : State) (requests : List Request) → finally s (allCalls requests) ≡ afterwards s requests
 unfolding finally allCalls afterwards
 all-leave s [] = refl

@@ -1,27 +1,19 @@
 -- What follows. No list of requests changes a size. From an empty table and any memory: the census is the number of places, which closings
 -- and openings balance; and what an accepted read returns, in one piece. By the theorem, and by soundness.
 -- Assumes nothing.
-use mathlib.Core.Path.{_≡_, refl, sym, ap, subst, _∙_}
-use mathlib.Core.Bool.{true, false}
-use mathlib.Core.List.{List, [], _∷_, _++_, append-assoc}
-use Prim.Native.Nat.{ℕ, _+_, _≤_}
-use native.Mathlib.Omega.{arith}
-use Rattle.words.specs.Choice.{pick}
-use Rattle.entries.specs.Entry.{bit, isGuest, isAddress}
+use mathlib.Core.Path.{_≡_, sym, ap, subst, _∙_}
+use mathlib.Core.List.{List, _∷_, _++_, append-assoc}
+use Prim.Native.Nat.{ℕ, _≤_}
 use Rattle.rules.specs.Answers.{Told, word}
 use Rattle.rules.specs.Balance.{overAddresses}
-use Rattle.rules.specs.Calls.{Call, step}
-use Rattle.rules.specs.History.{Made, history, finally, Event, opens, closes, reads, writes, noEvent, eventOf, event, isOpening}
-use Rattle.rules.specs.History.{isClosing, openings, closings, lastWrite, NoCounterGoesBack}
+use Rattle.rules.specs.Calls.{step}
+use Rattle.rules.specs.History.{Made, reads, event, openings, lastWrite, NoCounterGoesBack}
 use Rattle.rules.specs.State.{State, emptyTable, wordAt}
-use Rattle.rules.proofs.CensusLaws.{census-answered, no-place, places-together}
+use Rattle.rules.proofs.CensusLaws.{census-answered, places-together}
 use Rattle.rules.proofs.History.{empty-sound}
-use Rattle.rules.proofs.HistoryLists.{Opened, opening-there, bit-most}
-use Rattle.rules.proofs.Sound.{Sound}
-use Rattle.rules.proofs.SoundSteps.{step-sound}
-use Rattle.rules.proofs.StateLaws.{SameSize, size-refl, size-trans}
-use Rattle.rules.proofs.StepChanges.{step-change}
-use Rattle.rules.proofs.Steps.{step-size}
+use Rattle.rules.proofs.HistoryFrom.{finally-size, none-there}
+use Rattle.rules.proofs.HistoryLists.{Opened, opening-there}
+use Rattle.rules.proofs.StateLaws.{SameSize}
 use Rattle.rules.proofs.Sums.{sum-add}
 use Rattle.requests.specs.Asked.{requested, afterwards, counted, SizesStay}
 use Rattle.requests.specs.Balance.{CensusClaim}
@@ -31,39 +23,13 @@ use Rattle.requests.proofs.Asked.{requests-keep-demand-3, afterwards-so
 use Rattle.requests.proofs.Thinned.{thin-openings, thin-closings}
 
 -- ---- no request of a list changes a size
-calls-size : (s : State) (calls : List Call) → SameSize s (finally s calls)
-unfolding finally
-calls-size s [] = size-refl s
-calls-size s (call ∷ rest) = size-trans (step-size s call) (calls-size (step s call .after) rest)
-
 same-size : (s : State) (requests : List Request) → SameSize s (afterwards s requests)
-same-size s requests = subst (SameSize s) (all-leave s requests) (calls-size s (allCalls requests))
+same-size s requests = subst (SameSize s) (all-leave s requests) (finally-size s (allCalls requests))
 
 pub sizes-stay : SizesStay
 sizes-stay s requests = let same = same-size s requests in (same .same-N, same .same-M, same .same-sized)
 
 -- ---- the census
--- no event is both an opening and a closing
-one-event : (e : Event) (guest gpa : ℕ) → bit (isOpening e guest gpa) + bit (isClosing e guest gpa) ≤ 1
-unfolding isOpening isClosing bit pick
-one-event (opens who at frame) guest gpa = omega (arith, bit-most (isOpening (opens who at frame) guest gpa))
-one-event (closes who at) guest gpa = omega (arith, bit-most (isClosing (closes who at) guest gpa))
-one-event (reads who at index) guest gpa = omega arith
-one-event (writes who at index value) guest gpa = omega arith
-one-event noEvent guest gpa = omega arith
-
--- at what is no address nothing opens or closes: there is no place there before a call, nor after it
-no-call-there :
-    (s : State) (calls : List Call) (guest gpa : ℕ) → Sound s → isGuest guest ≡ true → isAddress gpa ≡ false
-    → (closings (history s calls) guest gpa ≡ 0) × (openings (history s calls) guest gpa ≡ 0)
-unfolding history closings openings event
-no-call-there s [] guest gpa sound g none = (refl, refl)
-no-call-there s (call ∷ rest) guest gpa sound g none =
-    let after = step s call .after in
-    let then = no-call-there after rest guest gpa (step-sound s call sound) g none in
-    let balance = step-change s guest call sound g .balance gpa in
-    omega (arith, balance, one-event (eventOf call (step s call .told)) guest gpa, no-place s guest gpa none, no-place after guest gpa none)
-
 pub census-kept : CensusClaim
 unfolding overAddresses step
 census-kept length memory requests guest size g =
@@ -76,7 +42,7 @@ census-kept length memory requests guest size g =
       answered = rw whole (census-answered end sound guest (same-size start requests .same-sized ∙ size) g);
       balanced = sum-add _ _ _ _ (λ gpa. requests-keep-demand-3 length memory requests .counted guest gpa g);
       nowhere-else = λ gpa none.
-          let nothing = no-call-there start (allCalls requests) guest gpa (empty-sound length memory) g none in
+          let nothing = none-there start (allCalls requests) guest gpa (empty-sound length memory) g none in
           (sym (thin-closings guest gpa thins) ∙ nothing .0, sym (thin-openings guest gpa thins) ∙ nothing .1);
     }
 

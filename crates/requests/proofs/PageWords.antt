@@ -16,11 +16,12 @@ use Rattle.rules.specs.Calls.{WRITE, step}
 use Rattle.rules.specs.History.{Made, made, history, finally}
 use Rattle.rules.specs.Refusals.{GEOMETRY, ARGUMENT}
 use Rattle.rules.specs.State.{State, M, sized, wordAt, withWord, withFrame}
+use Rattle.rules.proofs.Chain.{check-passed, check-failed}
 use Rattle.rules.proofs.StateLaws.{frame-has, withWords, frame-by-words, size-word, entry-after-word}
 use Rattle.requests.specs.Pages.{sharedAccess, readable, handed, pageRead, pageCheck, pageWrite}
 use Rattle.requests.specs.PageWords.{PageIsReads, whole, empty, PageReadIsReads, writes, PageIsWrites, PageWriteIsWrites, UnfitIsArgument}
 use Rattle.requests.proofs.Shared.{shared, access-shared, Settled, passes, refuses, shared-settled, shared-same}
-use Rattle.requests.proofs.Shared.{check-passed, check-failed, sized-again}
+use Rattle.requests.proofs.Shared.{sized-again}
 
 module _ (caller gpa hpa : ℕ) where
   -- ---- a reading

@@ -7,8 +7,8 @@ use Prim.Native.Nat.{ℕ, _<_}
 use native.Mathlib.Omega.{arith}
 use lib.Dec.{eqb, ltb}
 use borrow.Author.Tests.{ltb-true, le-leb}
-use Rattle.words.specs.Choice.{pick, _and_, _or_}
-use Rattle.words.proofs.ChoiceLaws.{pick-true, pick-false}
+use Rattle.words.specs.Choice.{pick, _and_}
+use Rattle.words.proofs.ChoiceLaws.{or-true}
 use Rattle.entries.specs.Entry.{SHARED, frameOf}
 use Rattle.entries.specs.declared.entry.Entry.{Entry}
 use Rattle.entries.specs.declared.entry.Decoded.{Decoded}
@@ -18,6 +18,7 @@ use Rattle.rules.specs.Answers.{Verdict, refuse, unless, begins, entered}
 use Rattle.rules.specs.Arguments.{accessArguments, mayAccess}
 use Rattle.rules.specs.Refusals.{GEOMETRY, TYPE}
 use Rattle.rules.specs.State.{State, M, sized, covers, entryAt}
+use Rattle.rules.proofs.Chain.{check-twice}
 use Rattle.rules.proofs.StateLaws.{SameSize}
 
 -- the checks of a SHARED access to a frame
@@ -31,11 +32,6 @@ any-word : (caller gpa hpa index : ℕ) → index < 512
     → accessArguments caller gpa hpa SHARED SHARED index ≡ accessArguments caller gpa hpa SHARED SHARED 0
 unfolding accessArguments
 any-word caller gpa hpa index h = rw (le-leb index 511 (omega arith))
-
-or-true : (t : Bool) → t or true ≡ true
-unfolding _or_
-or-true true = refl
-or-true false = refl
 
 any-party : (caller : ℕ) → mayAccess caller SHARED SHARED ≡ true
 unfolding mayAccess _and_
@@ -89,20 +85,7 @@ pub shared-same :
 unfolding shared begins covers
 shared-same caller gpa hpa v size entries = rw (size .same-sized, size .same-M, size .same-N, entries (frameOf hpa))
 
--- ---- a check that passed, and one that failed; and sizes that are checked first, and then again
-pub check-passed : {t : Bool} (n : ℕ) (v : Verdict) → t ≡ true → unless t n v ≡ v
-unfolding unless
-check-passed n v h = pick-true _ _ h
-
-pub check-failed : {t : Bool} (n : ℕ) (v : Verdict) → t ≡ false → unless t n v ≡ refuse n
-unfolding unless
-check-failed n v h = pick-false _ _ h
-
-check-twice : (t : Bool) (n : ℕ) (v : Verdict) → unless t n (unless t n v) ≡ unless t n v
-unfolding unless pick
-check-twice true n v = refl
-check-twice false n v = refl
-
+-- ---- sizes that are checked first, and then again
 pub sized-again :
     (s : State) (caller gpa hpa : ℕ) (v : Verdict)
     → unless (sized s) GEOMETRY (shared s caller gpa hpa v) ≡ shared s caller gpa hpa v

@@ -1,12 +1,12 @@
 -- A chain of checks, link by link: where a check fails, the call is refused for a reason, and where it passes, the call comes to what
--- follows.
+-- follows. And a check by itself.
 -- Assumes nothing.
 use mathlib.Core.Path.{_≡_, refl}
 use mathlib.Core.Bool.{Bool, true, false, not}
 use Prim.Native.Nat.{ℕ, _<_}
 use borrow.Author.Tests.{not-true}
 use Rattle.words.specs.Choice.{pick}
-use Rattle.words.proofs.ChoiceLaws.{pick-either}
+use Rattle.words.proofs.ChoiceLaws.{pick-true, pick-false, pick-either}
 use Rattle.entries.specs.declared.entry.Entry.{Entry}
 use Rattle.entries.specs.declared.entry.Decoded.{Decoded}
 use Rattle.entries.specs.declared.entry.Decoded.the-variants.{Good, Bad}
@@ -18,6 +18,20 @@ use Rattle.rules.specs.Leaves.{consulted, placed, vacant}
 use Rattle.rules.specs.State.{State, N, sized, entryAt}
 use Rattle.rules.proofs.Accepted.{Accepted, Stepped, refuses, accepts}
 use Rattle.rules.proofs.Reason.{ordinary, Reason, plain, fault, bad-entry, broken-leaf}
+
+-- a check that passed, one that failed, and one that is made twice
+pub check-passed : {t : Bool} (n : ℕ) (v : Verdict) → t ≡ true → unless t n v ≡ v
+unfolding unless
+check-passed n v h = pick-true _ _ h
+
+pub check-failed : {t : Bool} (n : ℕ) (v : Verdict) → t ≡ false → unless t n v ≡ refuse n
+unfolding unless
+check-failed n v h = pick-false _ _ h
+
+pub check-twice : (t : Bool) (n : ℕ) (v : Verdict) → unless t n (unless t n v) ≡ unless t n v
+unfolding unless pick
+check-twice true n v = refl
+check-twice false n v = refl
 
 module _ {s : State} {c : Call} where
   pub granted : {told : Told} {after : State} → Accepted s c told after → Stepped s c (settle s (grant told after))

@@ -2,24 +2,27 @@
 -- an address reads there what it found or wrote. By induction on the calls, from what one call does to the places of a guest (Change).
 -- Assumes nothing.
 use mathlib.Core.Path.{_≡_, refl, sym, ap, subst, _∙_}
-use mathlib.Core.Bool.{true}
+use mathlib.Core.Bool.{true, false}
 use mathlib.Core.List.{List, [], _∷_, _++_}
 use Prim.Native.Nat.{ℕ, _+_, _≤_}
 use native.Mathlib.Omega.{arith}
-use Rattle.entries.specs.Entry.{isGuest, bit}
+use Rattle.entries.specs.Entry.{isAddress, isGuest, bit}
 use Rattle.rules.specs.Answers.{Told, word}
 use Rattle.rules.specs.Calls.{Call, step}
 use Rattle.rules.specs.Census.{holds, holding, places}
-use Rattle.rules.specs.History.{Made, history, finally, Event, opens, reads, event, isOpening, openings, closings, written}
-use Rattle.rules.specs.History.{lastWrite}
+use Rattle.rules.specs.History.{Made, history, finally, Event, opens, reads, eventOf, event, isOpening, openings, closings}
+use Rattle.rules.specs.History.{written, lastWrite}
 use Rattle.rules.specs.State.{State, wordAt}
 use Rattle.rules.proofs.AccessChanges.{ReadPlace}
+use Rattle.rules.proofs.CensusLaws.{no-place}
 use Rattle.rules.proofs.Changes.{Whence, old, new, Change}
-use Rattle.rules.proofs.HistoryLists.{opens-here, only-opening, Cut, cut}
+use Rattle.rules.proofs.HistoryLists.{opens-here, only-opening, one-event, Cut, cut}
 use Rattle.rules.proofs.PlaceLaws.{place-counts, one-place}
 use Rattle.rules.proofs.Sound.{Sound}
 use Rattle.rules.proofs.SoundSteps.{step-sound}
+use Rattle.rules.proofs.StateLaws.{SameSize, size-refl, size-trans}
 use Rattle.rules.proofs.StepChanges.{step-change, read-place}
+use Rattle.rules.proofs.Steps.{step-size}
 
 -- ---- what a guest's only place at an address holds
 pub record Kept (s : State) (guest gpa : ℕ) (w : ℕ → ℕ) : Type 0 where
@@ -96,6 +99,12 @@ unfolding finally
 finally-sound s [] sound = sound
 finally-sound s (call ∷ rest) sound = finally-sound (step s call .after) rest (step-sound s call sound)
 
+-- no call of a list changes a size
+pub finally-size : (s : State) (calls : List Call) → SameSize s (finally s calls)
+unfolding finally
+finally-size s [] = size-refl s
+finally-size s (call ∷ rest) = size-trans (step-size s call) (finally-size (step s call .after) rest)
+
 -- ---- counts
 pub places-over :
     (s : State) (calls : List Call) (guest gpa : ℕ) → Sound s → isGuest guest ≡ true
@@ -106,6 +115,18 @@ places-over s [] guest gpa sound g = refl
 places-over s (call ∷ rest) guest gpa sound g =
     let then = places-over (step s call .after) rest guest gpa (step-sound s call sound) g in
     omega (arith, step-change s guest call sound g .balance gpa)
+
+-- at what is no address nothing opens or closes: there is no place there before a call, nor after it
+pub none-there :
+    (s : State) (calls : List Call) (guest gpa : ℕ) → Sound s → isGuest guest ≡ true → isAddress gpa ≡ false
+    → (closings (history s calls) guest gpa ≡ 0) × (openings (history s calls) guest gpa ≡ 0)
+unfolding history closings openings event
+none-there s [] guest gpa sound g none = (refl, refl)
+none-there s (call ∷ rest) guest gpa sound g none =
+    let after = step s call .after in
+    let then = none-there after rest guest gpa (step-sound s call sound) g none in
+    let balance = step-change s guest call sound g .balance gpa in
+    omega (arith, balance, one-event (eventOf call (step s call .told)) guest gpa, no-place s guest gpa none, no-place after guest gpa none)
 
 -- ---- words: where no call of the list opens the address
 pub kept-over :

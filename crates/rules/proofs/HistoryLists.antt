@@ -1,5 +1,5 @@
--- Lists of calls as they were made: their openings counted and found, and a list that is cut at one of its calls, which got what the calls
--- before it left. By induction on the calls.
+-- Lists of calls as they were made: their openings counted and found, one list after another, and a list that is cut at one of its calls,
+-- which got what the calls before it left. By induction on the calls.
 -- Assumes nothing.
 use mathlib.Core.Path.{_≡_, refl, ap}
 use mathlib.Core.Bool.{Bool, true, false, false≢true}
@@ -13,7 +13,7 @@ use Rattle.words.proofs.ChoiceLaws.{true-or-false, pick-false, and-left, and-ri
 use Rattle.entries.specs.Entry.{bit}
 use Rattle.rules.specs.Calls.{Call, step}
 use Rattle.rules.specs.History.{Made, made, history, finally, Event, opens, closes, reads, writes, noEvent, event}
-use Rattle.rules.specs.History.{isOpening, openings}
+use Rattle.rules.specs.History.{isOpening, isClosing, openings}
 use Rattle.rules.specs.State.{State}
 
 -- ---- counts
@@ -32,6 +32,15 @@ bit-most false = omega arith
 pub opens-here : (guest gpa frame : ℕ) → bit (isOpening (opens guest gpa frame) guest gpa) ≡ 1
 unfolding isOpening bit pick _and_
 opens-here guest gpa frame = rw (eq-eqb guest guest refl, eq-eqb gpa gpa refl)
+
+-- no event is both an opening and a closing
+pub one-event : (e : Event) (guest gpa : ℕ) → bit (isOpening e guest gpa) + bit (isClosing e guest gpa) ≤ 1
+unfolding isOpening isClosing bit pick
+one-event (opens who at frame) guest gpa = omega (arith, bit-most (isOpening (opens who at frame) guest gpa))
+one-event (closes who at) guest gpa = omega (arith, bit-most (isClosing (closes who at) guest gpa))
+one-event (reads who at index) guest gpa = omega arith
+one-event (writes who at index value) guest gpa = omega arith
+one-event noEvent guest gpa = omega arith
 
 -- where some places and the openings of a list are no more than one, an opening in it is the only one, and there are no places
 pub only-opening :
@@ -89,6 +98,17 @@ opening-there (m ∷ rest) guest gpa some =
     ⊎-elim (opened-first m rest guest gpa)
     (λ h. opened-later m (opening-there rest guest gpa (omega (arith, uncounted h))))
     (true-or-false (isOpening (event m) guest gpa))
+
+-- ---- one list after another
+pub history-append : (s : State) (a b : List Call) → history s (a ++ b) ≡ history s a ++ history (finally s a) b
+unfolding history finally
+history-append s [] b = refl
+history-append s (call ∷ a) b = ap (λ l. made call s (step s call) ∷ l) (history-append (step s call .after) a b)
+
+pub finally-append : (s : State) (a b : List Call) → finally s (a ++ b) ≡ finally (finally s a) b
+unfolding finally
+finally-append s [] b = refl
+finally-append s (call ∷ a) b = finally-append (step s call .after) a b
 
 -- ---- a list cut at one of its calls
 pub record Cut (s : State) (past : List Made) (m : Made) (rest : List Made) : Type 0 where

@@ -53,6 +53,11 @@ module _ (s t : Bool) where
   unfolding _or_
   or-cases = elim s [ true ↦ λ e. inl refl | false ↦ λ e. inr e ]
 
+pub or-true : (t : Bool) → t or true ≡ true
+unfolding _or_
+or-true true = refl
+or-true false = refl
+
 -- a choice behind two bounds: both are kept, or one is not
 module _ {A : Type 0} (a b c d : ℕ) (x y : A) where
   pub bounds-kept : a < b → c < d → pick (ltb a b) (pick (ltb c d) x y) y ≡ x
