@@ -1,8 +1,7 @@
 // The checks of READ and WRITE, which are the same but for a fixed page. They come in three parts, each small enough to be compiled into
-// both calls: what an access begins with, the frame that it reaches, and what is allowed there.
+// both calls: what an access begins with, the frame that it reaches, and what is allowed there. The calls decode the frame's entry before
+// the second.
 ghost use mathlib.Core.Path.{_≡_};
-ghost use mathlib.Core.List.{List};
-ghost use Prim.Native.Nat.{ℕ};
 ghost use lib.Dec.{eqb, ltb};
 ghost use Rattle.entries.specs.Entry.{frameOf};
 ghost use Rattle.rules.specs.Access.{fixedAccess};
@@ -14,18 +13,15 @@ ghost use Rattle.checks.specs.Gate.{past};
 ghost use Rattle.access.specs.Reached.{reached, coveredReached, frameReached, pageAccess};
 use checks::answer::Refusal;
 use checks::begin::begin_access;
-use checks::begin::covers;
 use checks::gate::Gate;
 use checks::leaves;
 use entries::entry::Decoded;
 use entries::entry::Entry;
 use entries::entry::SHARED;
-use entries::entry::frame_of;
 use entries::leaf::LeafWord;
 use gates::access_type_met;
 use gates::fixed_access_met;
 use gates::unfixed_access_met;
-use rmp::table;
 
 // Whether an access writes.
 pub const READING: bool = false;
@@ -60,14 +56,12 @@ pub fn begun(
     begun.and_then(gtype == ntype, Refusal::PageType)
 }
 
-// Of a frame that the table covers: 5, 6. Of any other: 6 unless SHARED.
-pub fn reach(table: &[u64], writes: bool, hpa: u64, gtype: u64) -> Reached
-    ensures { λ r. ⌜ ((memory : List ℕ) (v : Verdict) (page : Entry → Verdict) → reached r v page
-        ≡ frameReached (state (now (table .entry)) memory) hpa gtype v page) ⌝ }
+// Of a frame that the table covers, with its entry: 5, 6. Of any other: 6 unless SHARED.
+pub fn reach(covered: bool, here: Decoded, writes: bool, gtype: u64) -> Reached
+    ensures { λ r. ⌜ ((v : Verdict) (page : Entry → Verdict) → reached r v page ≡ frameReached covered here gtype v page) ⌝ }
 {
-    let inside = covers(table, hpa);
-    if inside {
-        return reach_covered(table, writes, hpa, gtype);
+    if covered {
+        return reach_covered(here, writes, gtype);
     }
     let shared = gtype == SHARED;
     if shared {
@@ -76,12 +70,11 @@ pub fn reach(table: &[u64], writes: bool, hpa: u64, gtype: u64) -> Reached
     Reached::Refused(Refusal::PageType)
 }
 
-fn reach_covered(table: &[u64], writes: bool, hpa: u64, gtype: u64) -> Reached
-    ensures { λ r. ⌜ ((memory : List ℕ) (v : Verdict) (page : Entry → Verdict) → reached r v page
-        ≡ coveredReached (state (now (table .entry)) memory) hpa gtype v page) ⌝ }
+fn reach_covered(here: Decoded, writes: bool, gtype: u64) -> Reached
+    ensures { λ r. ⌜ ((v : Verdict) (page : Entry → Verdict) → reached r v page ≡ coveredReached here gtype v page) ⌝ }
 {
-    let Decoded::Good(page) = table::read(table, frame_of(hpa)) else {
-        return Reached::Refused(Refusal::BadEntry);
+    let Decoded::Good(page) = here else {
+        return Reached::Refused(Refusal::BadEntry(here.reason()));
     };
     let met = access_type_met(writes, page.kind, gtype);
     if let Gate::Shut(refusal) = met {

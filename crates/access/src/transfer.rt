@@ -5,9 +5,11 @@ ghost use Rattle.rules.specs.State.{state};
 ghost use Rattle.checks.specs.Answer.{gave};
 use crate::check;
 use checks::answer::Answer;
+use checks::begin::covers;
 use checks::gate::Gate;
 use entries::entry::frame_of;
 use frames::frame;
+use rmp::table;
 
 // `caller` reads a word of its page at `gpa`, in the frame at `hpa`.
 pub fn read(
@@ -27,7 +29,8 @@ pub fn read(
     if let Gate::Shut(refusal) = begun {
         return Answer::Refused(refusal);
     }
-    let reached = check::reach(table, check::READING, hpa, gtype);
+    let here = table::read(table, frame_of(hpa));
+    let reached = check::reach(covers(table, hpa), here, check::READING, gtype);
     let allowed = check::allowed(table, memory, check::READING, caller, gpa, reached);
     if let Gate::Shut(refusal) = allowed {
         return Answer::Refused(refusal);
@@ -55,7 +58,8 @@ pub fn write(
     if let Gate::Shut(refusal) = begun {
         return Answer::Refused(refusal);
     }
-    let reached = check::reach(table, check::WRITING, hpa, gtype);
+    let here = table::read(table, frame_of(hpa));
+    let reached = check::reach(covers(table, hpa), here, check::WRITING, gtype);
     let allowed = check::allowed(table, memory, check::WRITING, caller, gpa, reached);
     if let Gate::Shut(refusal) = allowed {
         return Answer::Refused(refusal);

@@ -35,8 +35,9 @@ fn in_leaf(word: LeafWord) -> Holding
 fn holding_at(table: &[u64], memory: &[u64], guest: u64, frame: usize) -> Holding
     ensures { λ r. ⌜ held r ≡ holding (state (now (table .entry)) (now (memory .entry))) guest frame ⌝ }
 {
-    let Decoded::Good(page) = table::read(table, frame) else {
-        return Holding::Fails(Refusal::BadEntry);
+    let here = table::read(table, frame);
+    let Decoded::Good(page) = here else {
+        return Holding::Fails(Refusal::BadEntry(here.reason()));
     };
     let fixed = page.fixed;
     if fixed {

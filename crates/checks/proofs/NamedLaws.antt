@@ -18,7 +18,7 @@ use Rattle.checks.specs.declared.passed.BothNamed.the-variants as pair
 named-entered : (g : Gate) (d : Decoded) (rest : Entry → Verdict) → past g (entered d rest) ≡ withNamed (namedOf g d) rest
 unfolding past entered namedOf withNamed
 named-entered (Shut r) d rest = refl
-named-entered Open Bad rest = refl
+named-entered Open (Bad reason) rest = refl
 named-entered Open (Good e) rest = refl
 
 both-entered :
@@ -26,8 +26,8 @@ both-entered :
     → past g (bothEntered d1 d2 rest) ≡ withBothNamed (andNamed (namedOf g d1) d2) rest
 unfolding past entered bothEntered namedOf andNamed withBothNamed
 both-entered (Shut r) d1 d2 rest = refl
-both-entered Open Bad d2 rest = refl
-both-entered Open (Good one) Bad rest = refl
+both-entered Open (Bad reason) d2 rest = refl
+both-entered Open (Good one) (Bad reason) rest = refl
 both-entered Open (Good one) (Good two) rest = refl
 
 -- a call with one named frame: past `g`, the gate that it begins with, its rule's chain is what `one` comes to, which the code has of the
@@ -45,8 +45,8 @@ two-checked g d1 d2 of-one of-both rest = rw (of-both, of-one) (both-entered g d
 let-through : (g : Gate) (d1 d2 : Decoded) (one two : Entry) → andNamed (namedOf g d1) d2 ≡ pair.Good one two → d1 ≡ Good one
 unfolding namedOf andNamed
 let-through (Shut r) d1 d2 one two h = cc
-let-through Open Bad d2 one two h = cc
-let-through Open (Good e) Bad one two h = cc
+let-through Open (Bad reason) d2 one two h = cc
+let-through Open (Good e) (Bad reason) one two h = cc
 let-through Open (Good e) (Good f) one two h = cc
 
 pub first-entry :

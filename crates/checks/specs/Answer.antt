@@ -2,6 +2,7 @@
 use mathlib.Core.List.{List}
 use Prim.Native.Nat.{ℕ}
 use Rattle.rules.specs.Answers.{Told, refused, done, none, closed, opened, already, word, count, Outcome, outcome}
+use Rattle.rules.specs.Refusals as rules
 use Rattle.rules.specs.Refusals.{GEOMETRY, ARGUMENT, CALLER, OUTSIDE, BAD-ENTRY, TYPE, OWNER, ADDRESS, NOT-VALIDATED}
 use Rattle.rules.specs.Refusals.{FIXED, NOT-FIXED, BROKEN-LEAF, NO-PLACE, PLACE-TAKEN, LEAF-IN-USE, CONTENTS, STILL-SHARED}
 use Rattle.rules.specs.State.{state}
@@ -12,27 +13,28 @@ use Rattle.checks.specs.declared.answer.Refusal.the-variants.{PlaceTaken
 use Rattle.checks.specs.declared.answer.Answer.{Answer}
 use Rattle.checks.specs.declared.answer.Answer.the-variants.{Refused, Done, None, Closed, Opened, Already, Word, Count}
 
-abbrev pub number : Refusal → ℕ
-number Geometry = GEOMETRY
-number Argument = ARGUMENT
-number Caller = CALLER
-number Outside = OUTSIDE
-number BadEntry = BAD-ENTRY
-number PageType = TYPE
-number Owner = OWNER
-number Address = ADDRESS
-number NotValidated = NOT-VALIDATED
-number Fixed = FIXED
-number NotFixed = NOT-FIXED
-number BrokenLeaf = BROKEN-LEAF
-number NoPlace = NO-PLACE
-number PlaceTaken = PLACE-TAKEN
-number LeafInUse = LEAF-IN-USE
-number Contents = CONTENTS
-number StillShared = STILL-SHARED
+-- the rules' refusal that one in code means: its number, and with 5 the reason
+abbrev pub means : Refusal → rules.Refusal
+means Geometry = GEOMETRY
+means Argument = ARGUMENT
+means Caller = CALLER
+means Outside = OUTSIDE
+means (BadEntry reason) = BAD-ENTRY reason
+means PageType = TYPE
+means Owner = OWNER
+means Address = ADDRESS
+means NotValidated = NOT-VALIDATED
+means Fixed = FIXED
+means NotFixed = NOT-FIXED
+means BrokenLeaf = BROKEN-LEAF
+means NoPlace = NO-PLACE
+means PlaceTaken = PLACE-TAKEN
+means LeafInUse = LEAF-IN-USE
+means Contents = CONTENTS
+means StillShared = STILL-SHARED
 
 abbrev pub told : Answer → Told
-told (Refused r) = refused (number r)
+told (Refused r) = refused (means r)
 told Done = done
 told None = none
 told (Closed asid gpa) = closed asid gpa

@@ -12,11 +12,11 @@ use Rattle.checks.specs.declared.passed.BothNamed.the-variants as pair
 
 unfoldable pub namedOf : Gate → Decoded → Named
 namedOf (Shut r) d = named.Refused r
-namedOf Open Bad = named.Refused BadEntry
+namedOf Open (Bad reason) = named.Refused (BadEntry reason)
 namedOf Open (Good e) = named.Good e
 
 -- of two frames: the first, then the second
 unfoldable pub andNamed : Named → Decoded → BothNamed
 andNamed (named.Refused r) d = pair.Refused r
-andNamed (named.Good one) Bad = pair.Refused BadEntry
+andNamed (named.Good one) (Bad reason) = pair.Refused (BadEntry reason)
 andNamed (named.Good one) (Good two) = pair.Good one two

@@ -3,7 +3,7 @@
 use Prim.Native.Nat.{ℕ}
 use Rattle.entries.specs.declared.entry.Entry.{Entry}
 use Rattle.rules.specs.Answers.{Verdict, refuse}
-use Rattle.checks.specs.Answer.{number}
+use Rattle.checks.specs.Answer.{means}
 use Rattle.checks.specs.declared.passed.Named.{Named}
 use Rattle.checks.specs.declared.passed.Named.the-variants as named
 use Rattle.checks.specs.declared.passed.BothNamed.{BothNamed}
@@ -13,12 +13,12 @@ use Rattle.checks.specs.declared.passed.Place.the-variants as place
 
 unfoldable pub withNamed : Named → (Entry → Verdict) → Verdict
 withNamed (named.Good one) rest = rest one
-withNamed (named.Refused r) rest = refuse (number r)
+withNamed (named.Refused r) rest = refuse (means r)
 
 unfoldable pub withBothNamed : BothNamed → (Entry → Entry → Verdict) → Verdict
 withBothNamed (pair.Good one two) rest = rest one two
-withBothNamed (pair.Refused r) rest = refuse (number r)
+withBothNamed (pair.Refused r) rest = refuse (means r)
 
 unfoldable pub withPlace : Place → (Entry → ℕ → Verdict) → Verdict
 withPlace (place.Good one gpa) rest = rest one gpa
-withPlace (place.Refused r) rest = refuse (number r)
+withPlace (place.Refused r) rest = refuse (means r)

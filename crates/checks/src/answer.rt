@@ -1,6 +1,6 @@
 // What a call answers.
 ghost use mathlib.Core.Path.{_≡_};
-ghost use Rattle.checks.specs.Answer.{number};
+ghost use Rattle.checks.specs.Answer.{means};
 
 // Why a call was refused.
 pub enum Refusal {
@@ -8,7 +8,8 @@ pub enum Refusal {
     Argument,
     Caller,
     Outside,
-    BadEntry,
+    // with the reason
+    BadEntry(u8),
     PageType,
     Owner,
     Address,
@@ -26,14 +27,14 @@ pub enum Refusal {
 impl Refusal {
     // Its number in the rules.
     pub fn number(self) -> u64
-        ensures { λ r. ⌜ r ≡ number self ⌝ }
+        ensures { λ r. ⌜ r ≡ means self .number ⌝ }
     {
         match self {
             Refusal::Geometry => 1,
             Refusal::Argument => 2,
             Refusal::Caller => 3,
             Refusal::Outside => 4,
-            Refusal::BadEntry => 5,
+            Refusal::BadEntry(_) => 5,
             Refusal::PageType => 6,
             Refusal::Owner => 7,
             Refusal::Address => 8,
@@ -47,6 +48,16 @@ impl Refusal {
             Refusal::Contents => 16,
             Refusal::StillShared => 17,
         }
+    }
+
+    // What is bad in the entry that 5 is given for; 0 with any other.
+    pub fn reason(self) -> u64
+        ensures { λ r. ⌜ r ≡ means self .reason ⌝ }
+    {
+        if let Refusal::BadEntry(reason) = self {
+            return reason as u64;
+        }
+        0
     }
 }
 

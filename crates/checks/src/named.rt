@@ -18,8 +18,9 @@ pub fn first(table: &[u64], begun: Gate, hpa: u64) -> Named
     if let Gate::Shut(refusal) = begun {
         return Named::Refused(refusal);
     }
-    let Decoded::Good(one) = table::read(table, frame_of(hpa)) else {
-        return Named::Refused(Refusal::BadEntry);
+    let here = table::read(table, frame_of(hpa));
+    let Decoded::Good(one) = here else {
+        return Named::Refused(Refusal::BadEntry(here.reason()));
     };
     Named::Good(one)
 }
@@ -32,8 +33,9 @@ pub fn second(table: &[u64], first: Named, hpa: u64) -> BothNamed
         Named::Refused(refusal) => return BothNamed::Refused(refusal),
         Named::Good(one) => one,
     };
-    let Decoded::Good(two) = table::read(table, frame_of(hpa)) else {
-        return BothNamed::Refused(Refusal::BadEntry);
+    let here = table::read(table, frame_of(hpa));
+    let Decoded::Good(two) = here else {
+        return BothNamed::Refused(Refusal::BadEntry(here.reason()));
     };
     BothNamed::Good(one, two)
 }

@@ -2,18 +2,16 @@
 -- words gives the entry. Each field is a digit of word 0, and `omega` reads the digits.
 -- Assumes nothing.
 use mathlib.Core.Path.{_≡_, refl}
-use mathlib.Core.Bool.{Bool, true, false, false≢true}
+use mathlib.Core.Bool.{Bool, true, false}
 use Prim.Native.Nat.{ℕ, zero, suc, _+_, _*_, _/_, _%_, _≤_, _<_}
 use native.Mathlib.Omega.{arith}
 use lib.Dec.{eqb}
 use borrow.Author.Tests.{eqb-true}
-use Rattle.words.specs.Choice.{pick, _and_}
-use Rattle.words.proofs.ChoiceLaws.{and-left, and-right}
-use Rattle.entries.specs.Entry.{bit, entry, fields, wellFormed, decoded, encoded}
+use Rattle.words.specs.Choice.{pick}
+use Rattle.entries.specs.Entry.{bit, entry, fields, WellFormed, decoded, encoded}
 use Rattle.entries.specs.declared.entry.Entry.{Entry}
-use Rattle.entries.specs.declared.entry.Decoded.{Decoded}
-use Rattle.entries.specs.declared.entry.Decoded.the-variants.{Good, Bad}
-use Rattle.entries.proofs.Tells.{tells}
+use Rattle.entries.specs.declared.entry.Decoded.the-variants.{Good}
+use Rattle.entries.proofs.Tells.{obeyed, tells}
 
 pub bit-small : (b : Bool) → bit b ≤ 1
 unfolding bit pick
@@ -46,20 +44,13 @@ whole-word w none =
         → asid + 0x10000 * kind + 0x40000 * v + 0x80000 * f ≡ w
     joined x y z asid kind v f p q r s = omega arith
 
--- a good entry was chosen by a test that passed
-pub chosen : (b : Bool) {d : Decoded} {e : Entry} → pick b d Bad ≡ Good e → (b ≡ true) × (d ≡ Good e)
-unfolding pick
-chosen true q = (refl, q)
-chosen false q = absurd (false≢true (cc))
-
 -- encode after decode is the two words, for every pair that decodes
 module _ (n w0 w1 : ℕ) (e : Entry) where
-  pub decode-good : decoded n w0 w1 ≡ Good e → (w0 / 0x100000 ≡ 0) × (fields w0 w1 ≡ e) × (wellFormed n e ≡ true)
+  pub decode-good : decoded n w0 w1 ≡ Good e → (w0 / 0x100000 ≡ 0) × (fields w0 w1 ≡ e) × WellFormed n e
   unfolding decoded
   decode-good g =
-      let q = chosen _ g in
-      let same : fields w0 w1 ≡ e = cc in
-      (eqb-true _ _ (and-left _ _ (q .0)), same, rw (← same) (and-right _ _ (q .0)))
+      let q = obeyed n _ _ e g in
+      (eqb-true _ _ (q .is-clear), q .same-entry, rw (q .is-clear, q .same-entry) at g)
 
   pub encode-decode : decoded n w0 w1 ≡ Good e → encoded e ≡ record { 0 = w0; 1 = w1 }
   unfolding encoded fields entry
@@ -88,7 +79,7 @@ digits asid kind v f a k p q =
     }
 
 -- decode after encode is the entry, for every well formed one
-module _ (n : ℕ) (e : Entry) (h : wellFormed n e ≡ true) where
+module _ (n : ℕ) (e : Entry) (h : WellFormed n e) where
   digits-of : Digits (encoded e .0) (e .asid) (e .kind) (bit (e .validated)) (bit (e .fixed))
   unfolding encoded
   digits-of =
@@ -102,5 +93,5 @@ module _ (n : ℕ) (e : Entry) (h : wellFormed n e ≡ true) where
       rw (d .asid-digit, d .kind-digit, d .validated-digit, d .fixed-digit, bit-read (e .validated), bit-read (e .fixed))
 
   pub decode-encode : decoded n (encoded e .0) (encoded e .1) ≡ Good e
-  unfolding decoded pick _and_
-  decode-encode = rw (digits-of .no-spare, same-fields, h)
+  unfolding decoded
+  decode-encode = rw (digits-of .no-spare, same-fields) h

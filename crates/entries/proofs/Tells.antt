@@ -1,5 +1,5 @@
--- What a well formed entry tells, and which entries are well formed: each fact follows from one or two of the three tests that
--- `wellFormed` joins. The proofs of other crates cite these and never open the tests.
+-- What a well formed entry tells, and which entries are well formed: each fact follows from one or two of the three tests of its fields.
+-- The proofs of other crates cite these and never open the tests.
 -- Assumes nothing.
 use mathlib.Core.Path.{_≡_, refl, sym, _∙_}
 use mathlib.Core.Bool.{Bool, true, false, false≢true}
@@ -7,11 +7,13 @@ use mathlib.Core.Logic.{_⊎_, inl, inr, ⊎-elim}
 use Prim.Native.Nat.{ℕ, _≤_, _<_}
 use native.Mathlib.Omega.{arith}
 use borrow.Author.Tests.{eqb-true, leb-true, ltb-true, le-leb, lt-ltb, not-true}
-use Rattle.words.specs.Choice.{_and_, _or_}
+use Rattle.words.specs.Choice.{pick, _and_, _or_}
 use Rattle.words.proofs.ChoiceLaws.{and-left, and-right, or-cases}
 use Rattle.entries.specs.Entry.{SHARED, PRIVATE, MERGEABLE, LEAF, isAddress, frameOf, isGuest, isOwned, isUnowned, entry}
-use Rattle.entries.specs.Entry.{asidFits, flagsFit, addressFits, wellFormed, toValidated, toMoved}
+use Rattle.entries.specs.Entry.{asidFits, flagsFit, addressFits, rule, byRules, WellFormed, toValidated, toMoved}
 use Rattle.entries.specs.declared.entry.Entry.{Entry}
+use Rattle.entries.specs.declared.entry.Decoded.{Decoded}
+use Rattle.entries.specs.declared.entry.Decoded.the-variants.{Good, Bad}
 
 -- joined tests that passed, from what each of them tells
 module _ {s t : Bool} {A B : Type 0} (f : s ≡ true → A) (g : t ≡ true → B) where
@@ -54,6 +56,54 @@ pub record Tells (n : ℕ) (e : Entry) : Type 0 where
   pub fixed-leaf : e .fixed ≡ true → frameOf (e .address) < n
   pub address-fits : isAddress (e .address) ≡ true
 
+-- ---- the rules of an entry, one after the other
+-- a good entry was chosen by a test that passed
+pub chosen : (b : Bool) (reason : ℕ) {d : Decoded} {e : Entry} → pick b d (Bad reason) ≡ Good e → (b ≡ true) × (d ≡ Good e)
+unfolding pick
+chosen true reason q = (refl, q)
+chosen false reason q = absurd (false≢true (cc))
+
+-- it obeys all rules, and is the one that was given
+pub record Obeyed (n : ℕ) (clear : Bool) (given e : Entry) : Type 0 where
+  pub is-clear : clear ≡ true
+  pub asid-fits : asidFits given ≡ true
+  pub flags-fit : flagsFit given ≡ true
+  pub address-fits : addressFits n given ≡ true
+  pub same-entry : given ≡ e
+
+pub obeyed : (n : ℕ) (clear : Bool) (given e : Entry) → byRules n clear given ≡ Good e → Obeyed n clear given e
+unfolding byRules rule
+obeyed n clear given e h =
+    let one = chosen _ _ h in
+    let two = chosen _ _ (one .1) in
+    let three = chosen _ _ (two .1) in
+    let four = chosen _ _ (three .1) in
+    record {
+      is-clear = one .0;
+      asid-fits = two .0;
+      flags-fit = three .0;
+      address-fits = four .0;
+      same-entry = cc (four .1);
+    }
+
+-- the reason of a bad one is one of the four
+one-rule :
+    (holds : Bool) (mine : ℕ) {d : Decoded} (reason : ℕ) → (1 ≤ mine) × (mine ≤ 4)
+    → (d ≡ Bad reason → (1 ≤ reason) × (reason ≤ 4)) → rule holds mine d ≡ Bad reason → (1 ≤ reason) × (reason ≤ 4)
+unfolding rule pick
+one-rule true mine reason within rest h = rest h
+one-rule false mine reason within rest h = let same : mine ≡ reason = cc in rw same at within
+
+pub reason-within : (n : ℕ) (clear : Bool) (e : Entry) (reason : ℕ) → byRules n clear e ≡ Bad reason → (1 ≤ reason) × (reason ≤ 4)
+unfolding byRules
+reason-within n clear e reason =
+    one-rule _ _ reason (omega arith, omega arith)
+    (one-rule _ _ reason (omega arith, omega arith)
+    (one-rule _ _ reason (omega arith, omega arith)
+    (one-rule _ _ reason (omega arith, omega arith)
+    (λ h. absurd (false≢true (cc))))))
+
+-- ---- what a well formed entry tells
 zero-address : isAddress 0 ≡ true
 unfolding isAddress _and_
 zero-address = refl
@@ -130,27 +180,28 @@ module _ (n : ℕ) (e : Entry) where
           address-fits = ⊎-elim (λ u. rw (u .1) zero-address) (λ o. o .0 .1) w;
         }
 
-  pub tells : wellFormed n e ≡ true → Tells n e
-  unfolding wellFormed
-  tells h = let q = both (both of-asid of-flags) of-address h in from-parts (q .0 .0) (q .0 .1) (q .1)
+  pub tells : WellFormed n e → Tells n e
+  tells h =
+      let q = obeyed n true e e h in
+      from-parts (of-asid (q .asid-fits)) (of-flags (q .flags-fit)) (of-address (q .address-fits))
 
 -- an unowned entry, an unfixed page and a fixed page that are well formed
 module _ (n : ℕ) where
-  pub unowned-fits : (kind : ℕ) → isUnowned kind ≡ true → wellFormed n (entry 0 kind false false 0) ≡ true
-  unfolding wellFormed asidFits flagsFit addressFits entry _and_ _or_
+  pub unowned-fits : (kind : ℕ) → isUnowned kind ≡ true → WellFormed n (entry 0 kind false false 0)
+  unfolding byRules rule pick asidFits flagsFit addressFits entry _and_ _or_
   unowned-fits kind u = rw u
 
   pub page-fits :
       (asid kind : ℕ) (validated : Bool) (gpa : ℕ) → isOwned kind ≡ true → 1 ≤ asid → asid < 512 → isAddress gpa ≡ true
-      → wellFormed n (entry asid kind validated false gpa) ≡ true
-  unfolding wellFormed asidFits flagsFit addressFits entry _and_ _or_
+      → WellFormed n (entry asid kind validated false gpa)
+  unfolding byRules rule pick asidFits flagsFit addressFits entry _and_ _or_
   page-fits asid kind validated gpa o one small a =
       rw (not-unowned kind o, o, in-range asid one small, a)
 
   pub fixed-fits :
       (asid leaf : ℕ) → 1 ≤ asid → asid < 512 → isAddress leaf ≡ true → frameOf leaf < n
-      → wellFormed n (entry asid MERGEABLE true true leaf) ≡ true
-  unfolding wellFormed asidFits flagsFit addressFits entry isOwned isUnowned _and_ _or_
+      → WellFormed n (entry asid MERGEABLE true true leaf)
+  unfolding byRules rule pick asidFits flagsFit addressFits entry isOwned isUnowned _and_ _or_
   fixed-fits asid leaf one small a below =
       rw (in-range asid one small, a, lt-ltb (frameOf leaf) n below)
 

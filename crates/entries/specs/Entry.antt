@@ -1,9 +1,12 @@
--- 01, "Sizes and layout": an entry, its two words, and when it is well formed. All are over the code's `Entry`, a record of the five
--- fields. `kind` is the paper's TYPE; `address` is word 1: the guest's address, or where FIXED the leaf's.
+-- 01, "Sizes and layout": an entry, its two words, and when it is well formed; 02, Q-2: what is bad in one that is not. All are over the
+-- code's `Entry`, a record of the five fields. `kind` is the paper's TYPE; `address` is word 1: the guest's address, or where FIXED the
+-- leaf's.
+use mathlib.Core.Path.{_≡_}
 use mathlib.Core.Bool.{Bool, true, false, not}
 use Prim.Native.Nat.{ℕ, _+_, _*_, _/_, _%_}
 use lib.Dec.{leb, ltb, eqb}
 use Rattle.words.specs.Choice.{pick, _and_, _or_}
+use Rattle.entries.specs.Reasons.{SPARE-BITS, ASID, FLAGS, ADDRESS}
 use Rattle.entries.specs.declared.entry.Entry.{Entry}
 use Rattle.entries.specs.declared.entry.Decoded.{Decoded}
 use Rattle.entries.specs.declared.entry.Decoded.the-variants.{Good, Bad}
@@ -71,9 +74,28 @@ addressFits n e =
     (isUnowned (e .kind) and eqb (e .address) 0)
     or (isOwned (e .kind) and isAddress (e .address) and (not (e .fixed) or ltb (frameOf (e .address)) n))
 
--- "Well formed", in a table of n frames
-unfoldable pub wellFormed : ℕ → Entry → Bool
-wellFormed n e = asidFits e and flagsFit e and addressFits n e
+-- Q-2: "Decoding an entry shall say which rule broke first": where this rule is broken, its reason; else what the rules after it say
+unfoldable pub rule : Bool → ℕ → Decoded → Decoded
+rule holds reason rest = pick holds rest (Bad reason)
+
+-- ".. in this order: 1 spare bits, 2 ASID against type, 3 flags, 4 address." In a table of n frames, whether the spare bits are clear, and
+-- the fields: the entry, or bad with the reason
+unfoldable pub byRules : ℕ → Bool → Entry → Decoded
+byRules n clear e =
+    rule clear SPARE-BITS
+    (rule (asidFits e) ASID
+    (rule (flagsFit e) FLAGS
+    (rule (addressFits n e) ADDRESS
+    (Good e))))
+
+-- "Well formed", in a table of n frames: there is no reason
+abbrev pub WellFormed : ℕ → Entry → Type 0
+WellFormed n e = byRules n true e ≡ Good e
+
+-- the reason; 0 for none
+unfoldable pub reasonOf : Decoded → ℕ
+reasonOf (Good e) = 0
+reasonOf (Bad reason) = reason
 
 -- "Entry, word 0: bits 15:0 ASID, 17:16 TYPE, 18 VALIDATED, 19 FIXED, the rest zero. Word 1: GPA." These are the fields, whatever the
 -- rest is
@@ -81,10 +103,9 @@ unfoldable pub fields : ℕ → ℕ → Entry
 fields word0 word1 =
     entry (word0 % 0x10000) (word0 / 0x10000 % 4) (eqb (word0 / 0x40000 % 2) 1) (eqb (word0 / 0x80000 % 2) 1) word1
 
--- the entry that two words hold, in a table of n frames: "the rest zero", and well formed; else bad
+-- what two words hold, in a table of n frames. The spare bits are "the rest" of word 0; what is wrong in word 1 is the address
 unfoldable pub decoded : ℕ → ℕ → ℕ → Decoded
-decoded n word0 word1 =
-    pick (eqb (word0 / 0x100000) 0 and wellFormed n (fields word0 word1)) (Good (fields word0 word1)) Bad
+decoded n word0 word1 = byRules n (eqb (word0 / 0x100000) 0) (fields word0 word1)
 
 -- the two words of an entry, a flag as a bit
 unfoldable pub bit : Bool → ℕ

@@ -2,3 +2,4 @@
 pub mod Entry
 pub mod Examples
 pub mod Leaf
+pub mod Reasons

@@ -1,7 +1,7 @@
 // An entry of the RMP, and the numbers in it.
 ghost use mathlib.Core.Path.{_≡_};
 ghost use Rattle.entries.specs.Entry.{isAddress, frameOf, isParty, isGuest, isOwned, isUnowned};
-ghost use Rattle.entries.specs.Entry.{zeroEntry, toValidated, toFixed, toUnfixed, toMoved};
+ghost use Rattle.entries.specs.Entry.{reasonOf, zeroEntry, toValidated, toFixed, toUnfixed, toMoved};
 
 // The types of a page.
 pub const SHARED: u64 = 0;
@@ -21,10 +21,34 @@ pub struct Entry {
     pub address: u64,
 }
 
-// What two words of the table hold.
+// What two words of the table hold: an entry, or the reason of a bad one.
 pub enum Decoded {
     Good(Entry),
-    Bad,
+    Bad(u8),
+}
+
+// The reasons, by the rule that a bad entry breaks first.
+pub const SPARE_BITS: u8 = 1;
+
+pub const ASID: u8 = 2;
+
+pub const FLAGS: u8 = 3;
+
+pub const ADDRESS: u8 = 4;
+
+// There is no entry: the table does not cover the frame.
+pub const NO_ENTRY: u8 = 0;
+
+impl Decoded {
+    // The reason; 0 where it is good.
+    pub fn reason(self) -> u8
+        ensures { λ r. ⌜ r ≡ reasonOf self ⌝ }
+    {
+        match self {
+            Decoded::Good(_) => 0,
+            Decoded::Bad(reason) => reason,
+        }
+    }
 }
 
 // The two words of an entry.

@@ -38,7 +38,7 @@ by-entry :
     → namesLeaf here leaf ≡ false
 unfolding namesLeaf
 by-entry t frame leaf other (Good e) found = and-not _ _ (rw (← entry-address t frame e found) other)
-by-entry t frame leaf other Bad found = refl
+by-entry t frame leaf other (Bad reason) found = refl
 
 pub not-named : (t : List ℕ) (frame leaf : ℕ) → eqb (addressIn t frame) leaf ≡ false → namesLeaf (entryIn t frame) leaf ≡ false
 not-named t frame leaf other = by-entry t frame leaf other (entryIn t frame) refl

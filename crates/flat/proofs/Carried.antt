@@ -13,7 +13,7 @@ use Rattle.flat.specs.declared.Flat.{Flat}
 
 pub flat-says : FlatSays
 unfolding flat says pick
-flat-says (refused number) = refl
+flat-says (refused refusal) = refl
 flat-says done = refl
 flat-says none = refl
 flat-says (closed asid gpa) = refl

@@ -1,5 +1,5 @@
--- The answers of the rules as C gets them, a struct of five numbers: the refusal's number or 0, the answer's kind, its values. What an
--- answer does not have is 0.
+-- The answers of the rules as C gets them, a struct of six numbers: the refusal's number or 0, the answer's kind, its values, the refusal's
+-- reason. What an answer does not have is 0.
 use mathlib.Core.Path.{_≡_}
 use mathlib.Core.List.{List}
 use Prim.Native.Nat.{ℕ}
@@ -34,19 +34,19 @@ WORD = 6
 abbrev pub COUNT : ℕ
 COUNT = 7
 
-abbrev pub numbers : ℕ → ℕ → ℕ → ℕ → ℕ → Flat
-numbers refusal kind asid gpa value =
-    record { refusal = refusal; kind = kind; asid = asid; gpa = gpa; value = value }
+abbrev pub numbers : ℕ → ℕ → ℕ → ℕ → ℕ → ℕ → Flat
+numbers refusal kind asid gpa value reason =
+    record { refusal = refusal; kind = kind; asid = asid; gpa = gpa; value = value; reason = reason }
 
 unfoldable pub flat : Told → Flat
-flat (refused number) = numbers number REFUSED 0 0 0
-flat done = numbers 0 DONE 0 0 0
-flat none = numbers 0 NONE 0 0 0
-flat (closed asid gpa) = numbers 0 CLOSED asid gpa 0
-flat opened = numbers 0 OPENED 0 0 0
-flat already = numbers 0 ALREADY 0 0 0
-flat (word value) = numbers 0 WORD 0 0 value
-flat (count places) = numbers 0 COUNT 0 0 places
+flat (refused refusal) = numbers (refusal .number) REFUSED 0 0 0 (refusal .reason)
+flat done = numbers 0 DONE 0 0 0 0
+flat none = numbers 0 NONE 0 0 0 0
+flat (closed asid gpa) = numbers 0 CLOSED asid gpa 0 0
+flat opened = numbers 0 OPENED 0 0 0 0
+flat already = numbers 0 ALREADY 0 0 0 0
+flat (word value) = numbers 0 WORD 0 0 value 0
+flat (count places) = numbers 0 COUNT 0 0 places 0
 
 -- what a function returns, with the table and memory that it left; and an outcome of the rules, so returned
 pub record Returned : Type 0 where
@@ -62,7 +62,7 @@ flattened o = record { answer = flat (o .told); after = o .after }
 -- what a returned answer says, by its kind; and that this is the answer that was flattened
 unfoldable pub says : Flat → Told
 says r =
-    pick (eqb (r .kind) REFUSED) (refused (r .refusal))
+    pick (eqb (r .kind) REFUSED) (refused (record { number = r .refusal; reason = r .reason }))
     (pick (eqb (r .kind) DONE) done
     (pick (eqb (r .kind) NONE) none
     (pick (eqb (r .kind) CLOSED) (closed (r .asid) (r .gpa))

@@ -21,7 +21,7 @@ pub const WORD: u64 = 6;
 
 pub const COUNT: u64 = 7;
 
-// `refusal` is the number of a refusal, or 0. What an answer does not have is 0.
+// `refusal` is the number of a refusal, or 0. `reason` comes with 5 alone: what is bad in the entry. What an answer does not have is 0.
 #[repr(C)]
 pub struct Flat {
     pub refusal: u64,
@@ -29,10 +29,11 @@ pub struct Flat {
     pub asid: u64,
     pub gpa: u64,
     pub value: u64,
+    pub reason: u64,
 }
 
-fn numbers(refusal: u64, kind: u64, asid: u64, gpa: u64, value: u64) -> Flat
-    ensures { λ r. ⌜ r ≡ numbers refusal kind asid gpa value ⌝ }
+fn numbers(refusal: u64, kind: u64, asid: u64, gpa: u64, value: u64, reason: u64) -> Flat
+    ensures { λ r. ⌜ r ≡ numbers refusal kind asid gpa value reason ⌝ }
 {
     Flat {
         refusal,
@@ -40,6 +41,7 @@ fn numbers(refusal: u64, kind: u64, asid: u64, gpa: u64, value: u64) -> Flat
         asid,
         gpa,
         value,
+        reason,
     }
 }
 
@@ -47,13 +49,15 @@ pub fn flatten(answer: Answer) -> Flat
     ensures { λ r. ⌜ r ≡ flat (told answer) ⌝ }
 {
     match answer {
-        Answer::Refused(refusal) => numbers(refusal.number(), REFUSED, 0, 0, 0),
-        Answer::Done => numbers(0, DONE, 0, 0, 0),
-        Answer::None => numbers(0, NONE, 0, 0, 0),
-        Answer::Closed { asid, gpa } => numbers(0, CLOSED, asid, gpa, 0),
-        Answer::Opened => numbers(0, OPENED, 0, 0, 0),
-        Answer::Already => numbers(0, ALREADY, 0, 0, 0),
-        Answer::Word(word) => numbers(0, WORD, 0, 0, word),
-        Answer::Count(places) => numbers(0, COUNT, 0, 0, places),
+        Answer::Refused(refusal) => {
+            numbers(refusal.number(), REFUSED, 0, 0, 0, refusal.reason())
+        }
+        Answer::Done => numbers(0, DONE, 0, 0, 0, 0),
+        Answer::None => numbers(0, NONE, 0, 0, 0, 0),
+        Answer::Closed { asid, gpa } => numbers(0, CLOSED, asid, gpa, 0, 0),
+        Answer::Opened => numbers(0, OPENED, 0, 0, 0, 0),
+        Answer::Already => numbers(0, ALREADY, 0, 0, 0, 0),
+        Answer::Word(word) => numbers(0, WORD, 0, 0, word, 0),
+        Answer::Count(places) => numbers(0, COUNT, 0, 0, places, 0),
     }
 }

@@ -24,5 +24,6 @@ pub mod Tells
 pub mod TextKeeps
 pub mod TextTells
 pub mod Texts
+pub mod Unprinted
 pub mod UpTo
 pub mod Without

@@ -53,8 +53,9 @@ all-without mark (byte ∷ run) e =
 
 answered-without : (told : Told) → Without LF (answered told)
 unfolding answered upTo pick
-answered-without (refused number) =
-    without-append LF (ascii " no ") (decimal number) (all-without LF (ascii " no ") refl) (decimal-without LF number (omega arith))
+answered-without (refused refusal) =
+    without-append LF (ascii " no ") (decimal (refusal .number)) (all-without LF (ascii " no ") refl)
+    (decimal-without LF (refusal .number) (omega arith))
 answered-without done = all-without LF (ascii " ok") refl
 answered-without none = all-without LF (ascii " ok none") refl
 answered-without (closed asid gpa) =

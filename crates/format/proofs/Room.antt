@@ -32,7 +32,7 @@ lines-most (byte ∷ rest) =
 -- ---- replies
 pub answered-most : (told : Told) → length (answered told) ≤ 52
 unfolding answered
-answered-most (refused number) = simp length-append (omega (arith, decimal-most number))
+answered-most (refused refusal) = simp length-append (omega (arith, decimal-most (refusal .number)))
 answered-most done = omega arith
 answered-most none = omega arith
 answered-most (closed asid gpa) = simp length-append (omega (arith, hex-most asid, hex-most gpa))

@@ -13,6 +13,7 @@ use lib.Seq.{drop-append-add}
 use Rattle.words.specs.Choice.{pick}
 use Rattle.rules.specs.Answers.{Told, refused, done, none, closed, opened, already, word, count}
 use Rattle.rules.specs.Calls.{Call, RMPUPDATE, PVALIDATE, PFIX, PMERGE, PUNMERGE, PUNFIX, READ, WRITE, CENSUS}
+use Rattle.rules.specs.Refusals.{alone}
 use Rattle.rules.specs.Words.{MayAnswer, is-refused, is-none, is-closed, is-opened, is-already, is-fixed, is-merged, is-unmerged}
 use Rattle.rules.specs.Words.{is-unfixed, is-read, is-written, is-counted}
 use Rattle.format.specs.Number.{value, hex, decimal}
@@ -70,7 +71,7 @@ granted (WRITE caller gpa hpa gtype ntype index value) text = done
 granted (CENSUS asid) text = count (number LF (drop 5 text))
 
 heard : Call → List ℕ → Told
-heard call text = pick (eqb (getD text 2 0) (code "n")) (refused (worth 10 0 (upTo LF (drop 5 text)))) (granted call text)
+heard call text = pick (eqb (getD text 2 0) (code "n")) (refused (alone (worth 10 0 (upTo LF (drop 5 text))))) (granted call text)
 
 reply-heard : (call : Call) (told : Told) → MayAnswer call told → heard call (reply call told) ≡ told
 unfolding heard granted reply answered pick

@@ -4,6 +4,7 @@ use mathlib.Core.List.{List, [], _∷_, map}
 use Prim.Native.String.{String}
 use Rattle.rules.specs.Answers.{Told, refused, done, none, closed, opened, already, word, count}
 use Rattle.rules.specs.Calls.{Call, RMPUPDATE, PVALIDATE, PFIX, PMERGE, PUNMERGE, PUNFIX, READ, WRITE, CENSUS}
+use Rattle.rules.specs.Refusals.{alone, BAD-ENTRY}
 use Rattle.format.specs.Ascii.{ascii}
 use Rattle.format.specs.Line.{Said, says, wrong, said}
 use Rattle.format.specs.Reply.{reply}
@@ -60,13 +61,14 @@ printedAnswers =
     ∷ answered (PVALIDATE 0x7 0x50000 0x1000 0x2) opened "V ok opened\n"
     ∷ answered (PVALIDATE 0x7 0x50000 0x1000 0x2) already "V ok already\n"
     ∷ answered (PFIX 0x0 0x1000 0x3000) done "F ok\n"
-    ∷ answered (PMERGE 0x0 0x1000 0x2000) (refused 16) "M no 16\n"
+    ∷ answered (PMERGE 0x0 0x1000 0x2000) (refused (alone 16)) "M no 16\n"
     ∷ answered (PUNMERGE 0x0 0x1000 0x4000 0x9) done "D ok\n"
-    ∷ answered (PUNFIX 0x0 0x1000) (refused 17) "X no 17\n"
+    ∷ answered (PUNFIX 0x0 0x1000) (refused (alone 17)) "X no 17\n"
     ∷ answered (READ 0x9 0x60000 0x1000 0x2 0x2 0x3) (word 0x2a) "R ok 2a\n"
     ∷ answered (READ 0x9 0x60000 0x1000 0x2 0x2 0x3) (word 0x0) "R ok 0\n"
-    ∷ answered (WRITE 0x7 0x50000 0x1000 0x2 0x2 0x3 0x2b) (refused 10) "W no 10\n"
+    ∷ answered (WRITE 0x7 0x50000 0x1000 0x2 0x2 0x3 0x2b) (refused (alone 10)) "W no 10\n"
     ∷ answered (CENSUS 0x9) (count 0x10) "C ok 10\n"
+    ∷ answered (CENSUS 0x9) (refused (BAD-ENTRY 3)) "C no 5\n"
     ∷ []
 
 abbrev pub AsPrinted : Type 0

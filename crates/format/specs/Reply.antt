@@ -1,5 +1,5 @@
 -- 01, "The script program": what is printed for a line. "A wrong line prints `?`. Else: the letter, then `ok` and the answer's word and hex
--- numbers (no leading zeros), or `no` and the refusal in decimal."
+-- numbers (no leading zeros), or `no` and the refusal in decimal." (02, Q-2, "the script's output stays": the reason is not printed.)
 use mathlib.Core.List.{List, [], _∷_, _++_}
 use Prim.Native.Nat.{ℕ}
 use Rattle.rules.specs.Answers.{Told, refused, done, none, closed, opened, already, word, count}
@@ -9,7 +9,7 @@ use Rattle.format.specs.Number.{hex, decimal}
 use Rattle.format.specs.Written.{letter}
 
 unfoldable pub answered : Told → List ℕ
-answered (refused number) = ascii " no " ++ decimal number
+answered (refused refusal) = ascii " no " ++ decimal (refusal .number)
 answered done = ascii " ok"
 answered none = ascii " ok none"
 answered (closed asid gpa) = ascii " ok closed " ++ hex asid ++ ascii " " ++ hex gpa

@@ -9,7 +9,7 @@ ghost use Rattle.entries.specs.Entry.{SHARED, MERGEABLE, LEAF};
 ghost use Rattle.rules.specs.Access.{unfixedAccess};
 ghost use Rattle.rules.specs.Answers.{Verdict, unless, when};
 ghost use Rattle.rules.specs.Refusals.{TYPE, OWNER, ADDRESS, NOT-VALIDATED, FIXED, NOT-FIXED};
-ghost use Rattle.checks.specs.Answer.{number};
+ghost use Rattle.checks.specs.Answer.{means};
 ghost use Rattle.checks.specs.Gate.{past};
 ghost use Rattle.needs.specs.Needed.{fixedRefusal, flagsNeeded, oneFrameNeeded, twoFramesNeeded, accessNeed};
 use crate::table::needs;
@@ -113,7 +113,7 @@ fn flags_met(before: Gate, need: Need, page: Entry) -> Gate
 
 // 11 where FIXED must be set, else 10.
 fn fixed_refusal(need: u64) -> Refusal
-    ensures { λ r. ⌜ number r ≡ fixedRefusal need ⌝ }
+    ensures { λ r. ⌜ means r ≡ fixedRefusal need ⌝ }
 {
     if need == SET {
         return Refusal::NotFixed;

@@ -6,13 +6,13 @@ use lib.Dec.{eqb}
 use Rattle.words.specs.Choice.{pick, _and_}
 use Rattle.entries.specs.declared.entry.Entry.{Entry}
 use Rattle.rules.specs.Answers.{Verdict, unless}
-use Rattle.rules.specs.Refusals.{TYPE, NOT-VALIDATED, FIXED, NOT-FIXED}
+use Rattle.rules.specs.Refusals.{Refusal, TYPE, NOT-VALIDATED, FIXED, NOT-FIXED}
 use Rattle.needs.specs.Needs.{SET, needsOf, kindMet, flagMet}
 use Rattle.needs.specs.declared.need.Need.{Need}
 use Rattle.needs.specs.declared.need.Row.{Row}
 
 -- 11 where FIXED must be set, else 10
-unfoldable pub fixedRefusal : ℕ → ℕ
+unfoldable pub fixedRefusal : ℕ → Refusal
 fixedRefusal need = pick (eqb need SET) NOT-FIXED FIXED
 
 unfoldable pub flagsNeeded : Need → Entry → Verdict → Verdict

@@ -19,11 +19,13 @@ use access::check::begun;
 use access::check::reach;
 use checks::answer::Answer;
 use checks::answer::Refusal;
+use checks::begin::covers;
 use checks::begin::sizes_hold;
 use checks::gate::Gate;
 use entries::entry::SHARED;
 use entries::entry::frame_of;
 use frames::frame;
+use rmp::table;
 
 // The checks of a SHARED READ of word 0.
 fn may_read(table: &[u64], memory: &[u64], caller: u64, gpa: u64, hpa: u64) -> Gate
@@ -34,7 +36,8 @@ fn may_read(table: &[u64], memory: &[u64], caller: u64, gpa: u64, hpa: u64) -> G
     if let Gate::Shut(refusal) = begun {
         return Gate::Shut(refusal);
     }
-    let reached = reach(table, READING, hpa, SHARED);
+    let here = table::read(table, frame_of(hpa));
+    let reached = reach(covers(table, hpa), here, READING, SHARED);
     allowed(table, memory, READING, caller, gpa, reached)
 }
 
@@ -55,7 +58,8 @@ fn may_write(table: &[u64], memory: &[u64], caller: u64, gpa: u64, hpa: u64, who
     if let Gate::Shut(refusal) = begun {
         return Gate::Shut(refusal);
     }
-    let reached = reach(table, WRITING, hpa, SHARED);
+    let here = table::read(table, frame_of(hpa));
+    let reached = reach(covers(table, hpa), here, WRITING, SHARED);
     allowed(table, memory, WRITING, caller, gpa, reached)
 }
 

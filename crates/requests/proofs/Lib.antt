@@ -4,6 +4,7 @@ pub mod Asked
 pub mod Corollaries
 pub mod Never
 pub mod PageWords
+pub mod Refused
 pub mod Run
 pub mod Shared
 pub mod Thinned

@@ -14,7 +14,7 @@ use Rattle.rules.specs.Access.{read, write}
 use Rattle.rules.specs.Answers.{Told, refused, done, word, Outcome, outcome, Verdict, refuse, grant, settle, unless}
 use Rattle.rules.specs.Calls.{WRITE, step}
 use Rattle.rules.specs.History.{Made, made, history, finally}
-use Rattle.rules.specs.Refusals.{GEOMETRY, ARGUMENT}
+use Rattle.rules.specs.Refusals.{Refusal, GEOMETRY, ARGUMENT}
 use Rattle.rules.specs.State.{State, M, sized, wordAt, withWord, withFrame}
 use Rattle.rules.proofs.Chain.{check-passed, check-failed}
 use Rattle.rules.proofs.StateLaws.{frame-has, withWords, frame-by-words, size-word, entry-after-word}
@@ -42,8 +42,8 @@ module _ (caller gpa hpa : ℕ) where
         let frame = frame-has s (frameOf hpa) inside in
         whole (rw (readable-is, through _)) (rw (readable-is, through _) (frame .0))
         (λ i h. read-is i h ∙ rw (readable-is, through (grant done s), through _, frame .1 i))
-    read-by (refuses n stops) =
-        empty n (rw (readable-is, stops _)) (rw (readable-is, stops _)) (λ i h. read-is i h ∙ rw (stops _))
+    read-by (refuses r stops) =
+        empty r (rw (readable-is, stops _)) (rw (readable-is, stops _)) (λ i h. read-is i h ∙ rw (stops _))
 
   -- ---- a writing
   write-is :
@@ -86,19 +86,19 @@ module _ (caller gpa hpa : ℕ) where
       ∙ writes-leave (withWord s (frameOf hpa) i value) (suc i) rest (still-through s i value through) (omega arith)
 
   write-stopped :
-      (s : State) (i value n : ℕ) → ((v : Verdict) → shared s caller gpa hpa v ≡ refuse n) → i < 512
-      → step s (WRITE caller gpa hpa SHARED SHARED i value) ≡ outcome (refused n) s
+      (s : State) (i value : ℕ) (r : Refusal) → ((v : Verdict) → shared s caller gpa hpa v ≡ refuse r) → i < 512
+      → step s (WRITE caller gpa hpa SHARED SHARED i value) ≡ outcome (refused r) s
   unfolding settle
-  write-stopped s i value n stops h = write-is s i value h ∙ rw (stops _)
+  write-stopped s i value r stops h = write-is s i value h ∙ rw (stops _)
 
   writes-stopped :
-      (s : State) (i : ℕ) (words : List ℕ) (n : ℕ) → ((v : Verdict) → shared s caller gpa hpa v ≡ refuse n) → i + length words ≤ 512
+      (s : State) (i : ℕ) (words : List ℕ) (r : Refusal) → ((v : Verdict) → shared s caller gpa hpa v ≡ refuse r) → i + length words ≤ 512
       → finally s (writes caller gpa hpa i words) ≡ s
   unfolding finally writes
-  writes-stopped s i [] n stops fits = refl
-  writes-stopped s i (value ∷ rest) n stops fits =
-      ap (λ (o : Outcome). finally (o .after) (writes caller gpa hpa (suc i) rest)) (write-stopped s i value n stops (omega arith))
-      ∙ writes-stopped s (suc i) rest n stops (omega arith)
+  writes-stopped s i [] r stops fits = refl
+  writes-stopped s i (value ∷ rest) r stops fits =
+      ap (λ (o : Outcome). finally (o .after) (writes caller gpa hpa (suc i) rest)) (write-stopped s i value r stops (omega arith))
+      ∙ writes-stopped s (suc i) rest r stops (omega arith)
 
   -- each of them is answered the same
   module _ (P : State → Type 0) (t : Told)
@@ -132,13 +132,13 @@ module _ (caller gpa hpa : ℕ) where
             s 0 words past rest m through (omega arith) h
             ∙ sym (ap (λ o. o .told) written);
       }
-  written-by s words e (refuses n stops) =
-      let written : pageWrite s caller gpa hpa words ≡ outcome (refused n) s = page-write-is s words e ∙ rw (stops _) in
+  written-by s words e (refuses r stops) =
+      let written : pageWrite s caller gpa hpa words ≡ outcome (refused r) s = page-write-is s words e ∙ rw (stops _) in
       record {
-        leaves = ap (λ o. o .after) written ∙ sym (writes-stopped s 0 words n stops (omega arith));
+        leaves = ap (λ o. o .after) written ∙ sym (writes-stopped s 0 words r stops (omega arith));
         answers = λ past rest m h.
-            each-answered (λ u. u ≡ s) (refused n)
-            (λ u i value p l. let w = write-stopped s i value n stops l in rw p (ap (λ o. o .told) w, ap (λ o. o .after) w))
+            each-answered (λ u. u ≡ s) (refused r)
+            (λ u i value p l. let w = write-stopped s i value r stops l in rw p (ap (λ o. o .told) w, ap (λ o. o .after) w))
             s 0 words past rest m refl (omega arith) h
             ∙ sym (ap (λ o. o .told) written);
       }

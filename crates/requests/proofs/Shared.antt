@@ -1,5 +1,5 @@
 -- A SHARED access, to whichever word: a chain of checks that looks at sizes, arguments and the frame's entry alone. So every access to one
--- frame passes, or every one is refused with the same number, and writing words changes nothing of that.
+-- frame passes, or every one is refused alike, and writing words changes nothing of that.
 -- Assumes nothing.
 use mathlib.Core.Path.{_≡_, refl}
 use mathlib.Core.Bool.{Bool, true, false}
@@ -16,7 +16,7 @@ use Rattle.entries.specs.declared.entry.Decoded.the-variants.{Good, Bad}
 use Rattle.rules.specs.Access.{coveredAccess, access}
 use Rattle.rules.specs.Answers.{Verdict, refuse, unless, begins, entered}
 use Rattle.rules.specs.Arguments.{accessArguments, mayAccess}
-use Rattle.rules.specs.Refusals.{GEOMETRY, TYPE}
+use Rattle.rules.specs.Refusals.{Refusal, GEOMETRY, TYPE}
 use Rattle.rules.specs.State.{State, M, sized, covers, entryAt}
 use Rattle.rules.proofs.Chain.{check-twice}
 use Rattle.rules.proofs.StateLaws.{SameSize}
@@ -43,16 +43,16 @@ pub access-shared :
 unfolding access coveredAccess shared unless pick
 access-shared s writes caller gpa hpa index v h = rw (any-word caller gpa hpa index h, any-party caller)
 
--- ---- a chain of checks passes whatever follows, or refuses it with one number
+-- ---- a chain of checks passes whatever follows, or refuses it in one way
 pub data Settled (P : Type 0) (chain : Verdict → Verdict) : Type 0 where
   passes : P → ((v : Verdict) → chain v ≡ v) → Settled P chain
-  refuses : (number : ℕ) → ((v : Verdict) → chain v ≡ refuse number) → Settled P chain
+  refuses : (r : Refusal) → ((v : Verdict) → chain v ≡ refuse r) → Settled P chain
 
 module _ {P : Type 0} where
-  after-check : (t : Bool) (n : ℕ) (chain : Verdict → Verdict) → (t ≡ true → Settled P chain) → Settled P (λ v. unless t n (chain v))
+  after-check : (t : Bool) (r : Refusal) (chain : Verdict → Verdict) → (t ≡ true → Settled P chain) → Settled P (λ v. unless t r (chain v))
   unfolding unless pick
-  after-check true n chain follows = follows refl
-  after-check false n chain follows = refuses n (λ v. refl)
+  after-check true r chain follows = follows refl
+  after-check false r chain follows = refuses r (λ v. refl)
 
   after-choice :
       (t : Bool) (one two : Verdict → Verdict) → Settled P one → Settled P two → Settled P (λ v. pick t (one v) (two v))
@@ -65,7 +65,7 @@ module _ {P : Type 0} where
       → Settled P (λ v. entered d λ e. chain e v)
   unfolding entered
   after-entry (Good e) chain follows = follows e
-  after-entry Bad chain follows = refuses _ (λ v. refl)
+  after-entry (Bad reason) chain follows = refuses _ (λ v. refl)
 
 -- where it passes, memory has the frame
 pub shared-settled : (s : State) (caller gpa hpa : ℕ) → Settled (frameOf hpa < M s) (shared s caller gpa hpa)

@@ -54,7 +54,7 @@ abbrev pub NeverBroken : Type 0
 NeverBroken =
     (length : ℕ) (memory : List ℕ) (requests : List Request) (past rest : List Asked) (a : Asked)
     → requested (emptyTable length memory) requests ≡ past ++ (a ∷ rest)
-    → (a .reply ≢ tells (refused BAD-ENTRY)) × (a .reply ≢ tells (refused BROKEN-LEAF))
+    → ((reason : ℕ) → a .reply ≢ tells (refused (BAD-ENTRY reason))) × (a .reply ≢ tells (refused BROKEN-LEAF))
 
 -- no list of requests changes a size, from any table and memory
 abbrev pub SizesStay : Type 0

@@ -3,5 +3,6 @@ pub mod Asked
 pub mod Balance
 pub mod PageWords
 pub mod Pages
+pub mod Reasons
 pub mod Requests
 pub mod Run

@@ -11,12 +11,12 @@ use Rattle.rules.specs.Access.{read}
 use Rattle.rules.specs.Answers.{refused, done, word, outcome}
 use Rattle.rules.specs.Calls.{Call, WRITE}
 use Rattle.rules.specs.History.{Made, history, finally}
-use Rattle.rules.specs.Refusals.{GEOMETRY, ARGUMENT}
+use Rattle.rules.specs.Refusals.{Refusal, GEOMETRY, ARGUMENT}
 use Rattle.rules.specs.State.{State, sized}
 use Rattle.requests.specs.Pages.{pageRead, pageCheck, pageWrite}
 
--- what a page's reading is, one of two: 512 words, which the READs answer; or an empty part, where they are all refused with the number that
--- the check answers
+-- what a page's reading is, one of two: 512 words, which the READs answer; or an empty part, where they are all refused as the check is,
+-- number and reason
 pub data PageIsReads (s : State) (caller gpa hpa : ℕ) : Type 0 where
   whole :
       pageCheck s caller gpa hpa ≡ outcome done s
@@ -24,10 +24,10 @@ pub data PageIsReads (s : State) (caller gpa hpa : ℕ) : Type 0 where
       → ((i : ℕ) → i < 512 → read s caller gpa hpa SHARED SHARED i ≡ outcome (word (getD (pageRead s caller gpa hpa) i 0)) s)
       → PageIsReads s caller gpa hpa
   empty :
-      (number : ℕ)
-      → pageCheck s caller gpa hpa ≡ outcome (refused number) s
+      (refusal : Refusal)
+      → pageCheck s caller gpa hpa ≡ outcome (refused refusal) s
       → pageRead s caller gpa hpa ≡ []
-      → ((i : ℕ) → i < 512 → read s caller gpa hpa SHARED SHARED i ≡ outcome (refused number) s)
+      → ((i : ℕ) → i < 512 → read s caller gpa hpa SHARED SHARED i ≡ outcome (refused refusal) s)
       → PageIsReads s caller gpa hpa
 
 abbrev pub PageReadIsReads : Type 0

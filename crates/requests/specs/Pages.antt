@@ -20,7 +20,7 @@ readable s caller gpa hpa = sharedAccess s reading caller gpa hpa (grant done s)
 
 -- "A refused reading hands back an empty part"
 unfoldable pub handed : Verdict → List ℕ → List ℕ
-handed (refuse number) part = []
+handed (refuse refusal) part = []
 handed (grant answer after) part = part
 
 -- "For host or guest, a SHARED access to a frame hands back the part of memory that is this frame, all 512 words"
@@ -35,6 +35,7 @@ pageWrite s caller gpa hpa words =
     (unless (eqb (length words) 512) ARGUMENT
     (sharedAccess s writing caller gpa hpa (grant done (withFrame s (frameOf hpa) words)))))
 
--- "a third call only checks it and answers the number, or 0": `done` stands for the 0
+-- "a third call only checks it and answers the number, or 0": `done` stands for the 0. Q-2: it passes the reason on, "Q-1's reading by its
+-- third call".
 unfoldable pub pageCheck : State → ℕ → ℕ → ℕ → Outcome
 pageCheck s caller gpa hpa = settle s (readable s caller gpa hpa)

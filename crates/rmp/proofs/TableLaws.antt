@@ -2,8 +2,7 @@
 -- table's sizes; what is read is well formed; an empty table reads as zero entries. With the five definitions of `specs/Table` these are
 -- all that knows an entry's words in the table, but for worked examples.
 -- Assumes nothing.
-use mathlib.Core.Path.{_≡_, refl, ap, _∙_}
-use mathlib.Core.Bool.{true}
+use mathlib.Core.Path.{_≡_, refl, sym, ap, _∙_}
 use mathlib.Core.List.{List}
 use mathlib.Core.Logic.{_≢_, ⊎-elim}
 use Prim.Native.Nat.{ℕ, _+_, _*_, _≤_, _<_}
@@ -13,12 +12,14 @@ use lib.Seq.{getD-set-same, getD-set-other, set-getD}
 use borrow.Author.Tests.{lt-ltb, le-ltb, ltb-true}
 use Rattle.words.specs.Choice.{pick, _and_, _or_}
 use Rattle.words.proofs.ChoiceLaws.{lt-or-le, pick-true, pick-false}
-use Rattle.entries.specs.Entry.{isOwned, isUnowned, zeroEntry, entry, asidFits, flagsFit, addressFits, wellFormed}
+use Rattle.entries.specs.Entry.{isOwned, isUnowned, zeroEntry, entry, asidFits, flagsFit, addressFits, rule, byRules, WellFormed}
 use Rattle.entries.specs.Entry.{fields, decoded, encoded}
+use Rattle.entries.specs.Reasons.{NO-ENTRY}
 use Rattle.rmp.specs.Table.{covered, isWhole, entryIn, addressIn, putEntry}
 use Rattle.entries.specs.declared.entry.Entry.{Entry}
-use Rattle.entries.specs.declared.entry.Decoded.the-variants.{Good}
-use Rattle.entries.proofs.EntryLaws.{chosen, decode-encode, decode-good, encode-decode}
+use Rattle.entries.specs.declared.entry.Decoded.the-variants.{Good, Bad}
+use Rattle.entries.proofs.EntryLaws.{decode-encode, decode-good, encode-decode}
+use Rattle.entries.proofs.Tells.{chosen, reason-within}
 
 -- the words of a table after an entry was put
 module _ (t : List ℕ) (f : ℕ) (e : Entry) where
@@ -63,7 +64,7 @@ module _ (t : List ℕ) (f : ℕ) (e : Entry) where
       let within : 2 * f + 1 < length (set t (2 * f) (encoded e .0)) = rw length-set (omega arith) in
       rw (put-in h, getD-set-same)
 
-  pub entry-put-same : f < covered t → wellFormed (covered t) e ≡ true → entryIn (putEntry t f e) f ≡ Good e
+  pub entry-put-same : f < covered t → WellFormed (covered t) e → entryIn (putEntry t f e) f ≡ Good e
   unfolding entryIn
   entry-put-same h w =
       rw (covered-put, word0-same h, word1-same h, decode-encode (covered t) e w) (pick-true _ _ (lt-ltb _ _ h))
@@ -76,28 +77,33 @@ module _ (t : List ℕ) (f : ℕ) (e : Entry) where
       rw (covered-put, word0, word1)
 
 -- what a good entry tells: the table covers its frame, and it is well formed
-pub entry-good : (t : List ℕ) (f : ℕ) (e : Entry) → entryIn t f ≡ Good e → (f < covered t) × (wellFormed (covered t) e ≡ true)
+pub entry-good : (t : List ℕ) (f : ℕ) (e : Entry) → entryIn t f ≡ Good e → (f < covered t) × (WellFormed (covered t) e)
 unfolding entryIn
-entry-good t f e g = let q = chosen _ g in (ltb-true _ _ (q .0), decode-good _ _ _ e (q .1) .2)
+entry-good t f e g = let q = chosen _ NO-ENTRY g in (ltb-true _ _ (q .0), decode-good _ _ _ e (q .1) .2)
+
+-- a bad one that the table covers has one of the four reasons
+pub entry-bad : (t : List ℕ) (f reason : ℕ) → f < covered t → entryIn t f ≡ Bad reason → (1 ≤ reason) × (reason ≤ 4)
+unfolding entryIn decoded
+entry-bad t f reason h bad = reason-within _ _ _ reason (sym (pick-true _ _ (lt-ltb _ _ h)) ∙ bad)
 
 -- a good entry's address is the one that stands there
 pub entry-address : (t : List ℕ) (f : ℕ) (e : Entry) → entryIn t f ≡ Good e → addressIn t f ≡ e .address
 unfolding entryIn addressIn fields entry
 entry-address t f e g =
-    let q = chosen _ g in
+    let q = chosen _ NO-ENTRY g in
     pick-true _ _ (q .0) ∙ ap (λ (x : Entry). x .address) (decode-good _ _ _ e (q .1) .1)
 
 -- the entry that stands there, put again, changes no word
 pub put-same : (t : List ℕ) (f : ℕ) (e : Entry) → entryIn t f ≡ Good e → putEntry t f e ≡ t
 unfolding entryIn
 put-same t f e g =
-    let q = chosen _ g in
+    let q = chosen _ NO-ENTRY g in
     let words = encode-decode (covered t) (getD t (2 * f) 0) (getD t (2 * f + 1) 0) e (q .1) in
     rw (put-in t f e (ltb-true _ _ (q .0)), words, set-getD, set-getD)
 
 -- an empty table: all words zero
 pub decode-zero : (n : ℕ) → decoded n 0 0 ≡ Good zeroEntry
-unfolding decoded fields zeroEntry entry wellFormed asidFits flagsFit addressFits isOwned isUnowned pick _and_ _or_
+unfolding decoded fields zeroEntry entry byRules rule asidFits flagsFit addressFits isOwned isUnowned pick _and_ _or_
 decode-zero n = refl
 
 pub entry-empty : (k f : ℕ) → f < covered (replicate k 0) → entryIn (replicate k 0) f ≡ Good zeroEntry

@@ -7,6 +7,7 @@ use lib.Dec.{ltb, eqb}
 use lib.ListN.{length, getD, set}
 use Rattle.words.specs.Choice.{pick}
 use Rattle.entries.specs.Entry.{decoded, encoded}
+use Rattle.entries.specs.Reasons.{NO-ENTRY}
 use Rattle.entries.specs.declared.entry.Entry.{Entry}
 use Rattle.entries.specs.declared.entry.Decoded.{Decoded}
 use Rattle.entries.specs.declared.entry.Decoded.the-variants.{Bad}
@@ -19,12 +20,12 @@ covered table = length table / 2
 unfoldable pub isWhole : List ℕ → Bool
 isWhole table = eqb (length table % 2) 0
 
--- a frame's entry; one that the table does not cover has a bad one
+-- a frame's entry; a frame that the table does not cover has a bad one, with no reason
 unfoldable pub entryIn : List ℕ → ℕ → Decoded
 entryIn table frame =
     pick (ltb frame (covered table))
     (decoded (covered table) (getD table (2 * frame) 0) (getD table (2 * frame + 1) 0))
-    Bad
+    (Bad NO-ENTRY)
 
 -- the address that stands in a frame's entry, whatever else does; 0 where the table does not cover the frame
 unfoldable pub addressIn : List ℕ → ℕ → ℕ

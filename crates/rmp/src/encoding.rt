@@ -1,31 +1,77 @@
 // The two words of an entry: what they hold, and the words of an entry that is put.
 ghost use mathlib.Core.Path.{_≡_};
-ghost use Rattle.entries.specs.Entry.{wellFormed, fields, decoded, bit, encoded};
+ghost use Prim.Native.Nat.{_<_};
+ghost use Rattle.words.specs.Choice.{pick, _and_};
+ghost use Rattle.entries.specs.Entry.{asidFits, flagsFit, addressFits, fields, decoded, bit, encoded};
+ghost use Rattle.entries.specs.Reasons.{SPARE-BITS, ASID, FLAGS, ADDRESS};
+use entries::entry::ADDRESS;
+use entries::entry::ASID;
 use entries::entry::Decoded;
 use entries::entry::Entry;
+use entries::entry::FLAGS;
 use entries::entry::MERGEABLE;
+use entries::entry::SPARE_BITS;
 use entries::entry::Words;
 use entries::entry::frame_of;
 use entries::entry::is_address;
 use entries::entry::is_guest;
 use entries::entry::is_owned;
-use entries::entry::is_unowned;
 
-// Whether a table of so many frames may hold this entry. The type is looked at once, and then what it asks for: every entry that a call
-// reads passes through here.
-pub fn well_formed(e: Entry, frames: usize) -> bool
-    ensures { λ r. ⌜ r ≡ wellFormed frames e ⌝ }
+// Whether the fields of an entry obey the rules: its ASID, its flags, and flags and address together.
+struct Fits {
+    asid: bool,
+    flags: bool,
+    rest: bool,
+}
+
+// The type is looked at once, and then what it asks for: every entry that a call reads passes through here.
+fn fields_fit(e: Entry, frames: usize) -> Fits
+    requires { ⌜ e .kind < 4 ⌝ }
+    ensures { λ r. ⌜ r .asid ≡ asidFits e ⌝ }
+    ensures { λ r. ⌜ r .flags ≡ flagsFit e ⌝ }
+    ensures { λ r. ⌜ r .rest ≡ flagsFit e and addressFits frames e ⌝ }
 {
     let owned = is_owned(e.kind);
     if owned {
-        let placed = is_guest(e.asid) & is_address(e.address);
+        let asid = is_guest(e.asid);
         let fixed = e.fixed;
         if fixed {
-            return placed & (e.kind == MERGEABLE) & e.validated & (frame_of(e.address) < frames);
+            let flags = (e.kind == MERGEABLE) & e.validated;
+            let address = is_address(e.address) & (frame_of(e.address) < frames);
+            return Fits {
+                asid,
+                flags,
+                rest: flags & address,
+            };
         }
-        return placed;
+        return Fits {
+            asid,
+            flags: true,
+            rest: is_address(e.address),
+        };
     }
-    is_unowned(e.kind) & (e.asid == 0) & (!e.validated & !e.fixed) & (e.address == 0)
+    let flags = !e.validated & !e.fixed;
+    Fits {
+        asid: e.asid == 0,
+        flags,
+        rest: flags & (e.address == 0),
+    }
+}
+
+// The reason of a bad entry: the first rule that it breaks. Where the first three hold it breaks the last.
+fn first_broken(clear: bool, asid: bool, flags: bool) -> u8
+    ensures { λ r. ⌜ r ≡ pick clear (pick asid (pick flags ADDRESS FLAGS) ASID) SPARE-BITS ⌝ }
+{
+    if clear {
+        if asid {
+            if flags {
+                return ADDRESS;
+            }
+            return FLAGS;
+        }
+        return ASID;
+    }
+    SPARE_BITS
 }
 
 // The fields of two words, whatever they are.
@@ -41,13 +87,18 @@ fn fields(word0: u64, word1: u64) -> Entry
     }
 }
 
-// The entry that two words of a table of so many frames hold.
+// What two words of a table of so many frames hold.
 pub fn decode(frames: usize, word0: u64, word1: u64) -> Decoded
     ensures { λ r. ⌜ r ≡ decoded frames word0 word1 ⌝ }
 {
     let e = fields(word0, word1);
-    let good = (word0 / 0x100000 == 0) & well_formed(e, frames);
-    if good { Decoded::Good(e) } else { Decoded::Bad }
+    let clear = word0 / 0x100000 == 0;
+    let fits = fields_fit(e, frames);
+    let good = clear & fits.asid & fits.rest;
+    if good {
+        return Decoded::Good(e);
+    }
+    Decoded::Bad(first_broken(clear, fits.asid, fits.flags))
 }
 
 fn bit(b: bool) -> u64

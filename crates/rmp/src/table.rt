@@ -5,6 +5,7 @@ ghost use Rattle.rmp.specs.Table.{covered, isWhole, entryIn, addressIn, 
 use crate::encoding;
 use entries::entry::Decoded;
 use entries::entry::Entry;
+use entries::entry::NO_ENTRY;
 
 // How many frames the table covers.
 pub fn covered(table: &[u64]) -> usize
@@ -20,7 +21,7 @@ pub fn is_whole(table: &[u64]) -> bool
     table.len() % 2 == 0
 }
 
-// A frame's entry. A frame that the table does not cover has a bad one.
+// A frame's entry. A frame that the table does not cover has a bad one, with no reason.
 pub fn read(table: &[u64], frame: usize) -> Decoded
     ensures { λ r. ⌜ r ≡ entryIn (now (table .entry)) frame ⌝ }
 {
@@ -30,7 +31,7 @@ pub fn read(table: &[u64], frame: usize) -> Decoded
         let word1 = table[2 * frame + 1];
         return encoding::decode(n, word0, word1);
     }
-    Decoded::Bad
+    Decoded::Bad(NO_ENTRY)
 }
 
 // The address that stands in a frame's entry, whatever else does: to pass over an entry without decoding it. A frame that the table does

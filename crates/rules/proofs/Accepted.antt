@@ -1,5 +1,5 @@
 -- An accepted call as one relation: the call with what it has passed, what it answers and what it leaves. And what a call comes to: it is
--- refused for a reason, with the state as it was, or accepted. What holds of every accepted call is a function on the relation.
+-- refused for a cause, with the state as it was, or accepted. What holds of every accepted call is a function on the relation.
 -- Assumes nothing.
 use mathlib.Core.Bool.{false, true}
 use Prim.Native.Nat.{ℕ}
@@ -9,9 +9,11 @@ use Rattle.rules.specs.Answers.{Told, refused, done, word, count, Outcom
 use Rattle.rules.specs.Assignment.{assigning, updateAnswer, validating, validateAnswer}
 use Rattle.rules.specs.Calls.{Call, RMPUPDATE, PVALIDATE, PFIX, PMERGE, PUNMERGE, PUNFIX, READ, WRITE, CENSUS}
 use Rattle.rules.specs.Merging.{fixing, merging, unmerging, unfixing}
+use Rattle.rules.specs.Reasons.{framesOf}
+use Rattle.rules.specs.Refusals.{Refusal}
 use Rattle.rules.specs.State.{State, wordAt, withWord}
 use Rattle.rules.proofs.Passed.{Updated, Validated, Fixed, Merged, Unmerged, Unfixed, Accessed, Counted}
-use Rattle.rules.proofs.Reason.{Reason}
+use Rattle.rules.proofs.Cause.{Cause}
 
 pub data Accepted (s : State) : Call → Told → State → Type 0 where
   by-update :
@@ -41,5 +43,5 @@ pub data Accepted (s : State) : Call → Told → State → Type 0 where
   by-census : {asid n : ℕ} → Counted s asid n → Accepted s (CENSUS asid) (count n) s
 
 pub data Stepped (s : State) (c : Call) : Outcome → Type 0 where
-  refuses : (n : ℕ) → Reason s n → Stepped s c (outcome (refused n) s)
+  refuses : (r : Refusal) → Cause s (framesOf s c) r → Stepped s c (outcome (refused r) s)
   accepts : {told : Told} {after : State} → Accepted s c told after → Stepped s c (outcome told after)

@@ -10,7 +10,7 @@ use lib.Dec.{eqb}
 use borrow.Author.Tests.{leb-true, eqb-true, eqb-false, not-true}
 use Rattle.words.specs.Choice.{_or_}
 use Rattle.words.proofs.ChoiceLaws.{and-left, and-right, or-cases}
-use Rattle.entries.specs.Entry.{SHARED, LEAF, isAddress, isParty, isGuest, isOwned, isUnowned, entry, wellFormed}
+use Rattle.entries.specs.Entry.{SHARED, LEAF, isAddress, isParty, isGuest, isOwned, isUnowned, entry, WellFormed}
 use Rattle.entries.proofs.Tells.{unowned-fits, page-fits, false-not-true}
 use Rattle.rules.specs.Arguments.{isHost, updateArguments, validateArguments, twoFrameArguments, unmergeArguments, accessArguments}
 use Rattle.rules.specs.Arguments.{mayAccess}
@@ -58,15 +58,15 @@ module _ (caller hpa gpa asid kind : ℕ) (h : updateArguments caller hpa gpa as
             (or-cases _ _ (and-right _ _ h));
       }
 
-  pub update-fits : (n : ℕ) → wellFormed n (entry asid kind false false gpa) ≡ true
+  pub update-fits : (n : ℕ) → WellFormed n (entry asid kind false false gpa)
   update-fits n = ⊎-elim owned unowned (either-kind kind (update-tells .kind-small))
     where
-      owned : isOwned kind ≡ true → wellFormed n (entry asid kind false false gpa) ≡ true
+      owned : isOwned kind ≡ true → WellFormed n (entry asid kind false false gpa)
       owned o =
           let t = update-tells in
           page-fits n asid kind false gpa o (t .owned-guest o) (t .asid-small) (t .guest-address)
 
-      unowned : isUnowned kind ≡ true → wellFormed n (entry asid kind false false gpa) ≡ true
+      unowned : isUnowned kind ≡ true → WellFormed n (entry asid kind false false gpa)
       unowned u = let z = update-tells .unowned-zero u in rw (z .0, z .1) (unowned-fits n kind u)
 
 -- ---- PVALIDATE

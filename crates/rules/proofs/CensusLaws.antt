@@ -24,7 +24,7 @@ use Rattle.rules.proofs.Accepted.{Accepted, by-census}
 use Rattle.rules.proofs.Holdings.{holding-address}
 use Rattle.rules.proofs.Never.{sound-faultless}
 use Rattle.rules.proofs.PlaceLaws.{places-are, unplaced}
-use Rattle.rules.proofs.Reason.{tally-stops}
+use Rattle.rules.proofs.Cause.{tally-stops}
 use Rattle.rules.proofs.Sound.{Sound}
 use Rattle.rules.proofs.Stepped.{step-cases}
 use Rattle.rules.proofs.Sums.{sum-same, sum-none, sum-single, sum-swap, sum-most}
@@ -34,7 +34,7 @@ use Rattle.rules.proofs.Sums.{sum-same, sum-none, sum-single, sum-swap,
 unfoldable pub one : Holding → ℕ
 one (holds gpa) = 1
 one nothing = 0
-one (fails number) = 0
+one (fails refusal) = 0
 
 unfoldable pub held : State → ℕ → ℕ
 held s guest = sum (λ f. one (holding s guest f)) (N s)
@@ -43,7 +43,7 @@ one-most : (h : Holding) → one h ≤ 1
 unfolding one
 one-most (holds gpa) = omega arith
 one-most nothing = omega arith
-one-most (fails number) = omega arith
+one-most (fails refusal) = omega arith
 
 held-most : (s : State) (guest : ℕ) → held s guest ≤ N s
 unfolding held
@@ -54,8 +54,8 @@ counted-total : (t : Tally) (h : Holding) (n : ℕ) → counted t h ≡ total n 
 unfolding counted one
 counted-total (total m) (holds gpa) n e = (m, refl, cc)
 counted-total (total m) nothing n e = let same : m ≡ n = cc in (m, refl, omega arith)
-counted-total (total m) (fails number) n e = absurd (false≢true (cc))
-counted-total (stopped number) h n e = absurd (false≢true (cc))
+counted-total (total m) (fails refusal) n e = absurd (false≢true (cc))
+counted-total (stopped refusal) h n e = absurd (false≢true (cc))
 
 tally-total : (s : State) (guest k n : ℕ) → tally s guest k ≡ total n → n ≡ sum (λ f. one (holding s guest f)) k
 unfolding tally sum
@@ -85,7 +85,7 @@ module _ (s : State) (sound : Sound s) (guest : ℕ) where
     where
       go : (t : Tally) → tally s guest (N s) ≡ t → t ≡ total (held s guest)
       go (total n) e = rw (tally-held s guest n e)
-      go (stopped n) e = absurd (sound-faultless sound (tally-stops s n guest (N s) (le-refl _) e))
+      go (stopped n) e = absurd (sound-faultless sound (tally-stops s guest n (N s) (le-refl _) e))
 
   pub census-answered : sized s ≡ true → isGuest guest ≡ true → census s guest ≡ outcome (count (held s guest)) s
   unfolding census settle unless reported pick
@@ -104,7 +104,7 @@ one-over (holds here) b below =
     (λ gpa other. pick-false _ _ (ne-eqb here gpa (λ e. other (sym e))))
     ∙ pick-true _ _ (eq-eqb here here refl)
 one-over nothing b below = sum-none (λ gpa. 0) b (λ gpa h. refl)
-one-over (fails number) b below = sum-none (λ gpa. 0) b (λ gpa h. refl)
+one-over (fails refusal) b below = sum-none (λ gpa. 0) b (λ gpa h. refl)
 
 -- below any bound that all of them keep: counted by addresses or by frames
 places-below :

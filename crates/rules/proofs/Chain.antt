@@ -1,8 +1,9 @@
--- A chain of checks, link by link: where a check fails, the call is refused for a reason, and where it passes, the call comes to what
+-- A chain of checks, link by link: where a check fails, the call is refused for a cause, and where it passes, the call comes to what
 -- follows. And a check by itself.
 -- Assumes nothing.
-use mathlib.Core.Path.{_≡_, refl}
+use mathlib.Core.Path.{_≡_, refl, _∙_}
 use mathlib.Core.Bool.{Bool, true, false, not}
+use mathlib.Core.List.{List, _∷_}
 use Prim.Native.Nat.{ℕ, _<_}
 use borrow.Author.Tests.{not-true}
 use Rattle.words.specs.Choice.{pick}
@@ -15,30 +16,34 @@ use Rattle.entries.specs.declared.leaf.LeafWord.the-variants.{Absent, Present, 
 use Rattle.rules.specs.Answers.{Told, Verdict, refuse, grant, settle, unless, when, begins, entered}
 use Rattle.rules.specs.Calls.{Call}
 use Rattle.rules.specs.Leaves.{consulted, placed, vacant}
+use Rattle.rules.specs.Reasons.{framesOf, firstReason}
+use Rattle.rules.specs.Refusals.{Refusal, alone}
 use Rattle.rules.specs.State.{State, N, sized, entryAt}
 use Rattle.rules.proofs.Accepted.{Accepted, Stepped, refuses, accepts}
-use Rattle.rules.proofs.Reason.{ordinary, Reason, plain, fault, bad-entry, broken-leaf}
+use Rattle.rules.proofs.FirstReason.{named-bad}
+use Rattle.rules.proofs.Cause.{ordinary, Cause, plain, fault, bad-entry, broken-leaf}
+use Rattle.rules.proofs.StateLaws.{entry-reason}
 
 -- a check that passed, one that failed, and one that is made twice
-pub check-passed : {t : Bool} (n : ℕ) (v : Verdict) → t ≡ true → unless t n v ≡ v
+pub check-passed : {t : Bool} (r : Refusal) (v : Verdict) → t ≡ true → unless t r v ≡ v
 unfolding unless
-check-passed n v h = pick-true _ _ h
+check-passed r v h = pick-true _ _ h
 
-pub check-failed : {t : Bool} (n : ℕ) (v : Verdict) → t ≡ false → unless t n v ≡ refuse n
+pub check-failed : {t : Bool} (r : Refusal) (v : Verdict) → t ≡ false → unless t r v ≡ refuse r
 unfolding unless
-check-failed n v h = pick-false _ _ h
+check-failed r v h = pick-false _ _ h
 
-pub check-twice : (t : Bool) (n : ℕ) (v : Verdict) → unless t n (unless t n v) ≡ unless t n v
+pub check-twice : (t : Bool) (r : Refusal) (v : Verdict) → unless t r (unless t r v) ≡ unless t r v
 unfolding unless pick
-check-twice true n v = refl
-check-twice false n v = refl
+check-twice true r v = refl
+check-twice false r v = refl
 
 module _ {s : State} {c : Call} where
   pub granted : {told : Told} {after : State} → Accepted s c told after → Stepped s c (settle s (grant told after))
   unfolding settle
   granted passed = accepts passed
 
-  pub turned-down : {n : ℕ} → Reason s n → Stepped s c (settle s (refuse n))
+  pub turned-down : {r : Refusal} → Cause s (framesOf s c) r → Stepped s c (settle s (refuse r))
   unfolding settle
   turned-down why = refuses _ why
 
@@ -50,13 +55,13 @@ module _ {s : State} {c : Call} where
 
   pub checked :
       (t : Bool) (n : ℕ) (v : Verdict)
-      → ordinary n ≡ true → (t ≡ true → Stepped s c (settle s v)) → Stepped s c (settle s (unless t n v))
+      → ordinary n ≡ true → (t ≡ true → Stepped s c (settle s v)) → Stepped s c (settle s (unless t (alone n) v))
   unfolding unless
-  checked t n v o f = chosen t v (refuse n) f (λ e. turned-down (plain o))
+  checked t n v o f = chosen t v (refuse (alone n)) f (λ e. turned-down (plain o))
 
   pub checked-not :
       (t : Bool) (n : ℕ) (v : Verdict)
-      → ordinary n ≡ true → (t ≡ false → Stepped s c (settle s v)) → Stepped s c (settle s (when t n v))
+      → ordinary n ≡ true → (t ≡ false → Stepped s c (settle s v)) → Stepped s c (settle s (when t (alone n) v))
   unfolding when
   checked-not t n v o f = checked (not t) n v o (λ h. f (not-true t h))
 
@@ -68,16 +73,19 @@ module _ {s : State} {c : Call} where
   begun arguments party inside v f =
       checked _ _ _ refl λ size. checked _ _ _ refl λ a. checked _ _ _ refl λ p. checked _ _ _ refl λ i. f size a p i
 
-  -- the entry of a frame that the table covers
+  -- the entry of a frame that the table covers. Its reason is the first of the call's frames: it is the first, or those before are good
   pub decoded-by :
-      (f : ℕ) (rest : Entry → Verdict) → f < N s → ((e : Entry) → entryAt s f ≡ Good e → Stepped s c (settle s (rest e)))
+      (f : ℕ) (rest : Entry → Verdict) (others : List ℕ) → firstReason s (framesOf s c) ≡ firstReason s (f ∷ others) → f < N s
+      → ((e : Entry) → entryAt s f ≡ Good e → Stepped s c (settle s (rest e)))
       → Stepped s c (settle s (entered (entryAt s f) rest))
   unfolding entered
-  decoded-by f rest inside ok = go (entryAt s f) refl
+  decoded-by f rest others first inside ok = go (entryAt s f) refl
     where
       go : (d : Decoded) → entryAt s f ≡ d → Stepped s c (settle s (entered d rest))
       go (Good e) here = ok e here
-      go Bad here = turned-down (fault (bad-entry f inside here))
+      go (Bad reason) here =
+          let some = entry-reason s f reason inside here .0 in
+          turned-down (fault (bad-entry f reason inside here (first ∙ named-bad s f reason others here some)))
 
   -- the word consulted for a fixed page
   module _ (f : ℕ) (e : Entry) (guest : ℕ) where

@@ -11,7 +11,7 @@ use lib.Dec.{eqb}
 use Rattle.words.specs.Choice.{pick, _or_}
 use Rattle.words.proofs.ChoiceLaws.{pick-either}
 use Rattle.frames.specs.Frame.{zeros}
-use Rattle.entries.specs.Entry.{SHARED, MERGEABLE, frameOf, isOwned, isUnowned, entry, zeroEntry, wellFormed, toValidated, toFixed}
+use Rattle.entries.specs.Entry.{SHARED, MERGEABLE, frameOf, isOwned, isUnowned, entry, zeroEntry, WellFormed, toValidated, toFixed}
 use Rattle.entries.specs.Entry.{toUnfixed}
 use Rattle.entries.specs.Leaf.{presentAt}
 use Rattle.entries.specs.declared.entry.Entry.{Entry}
@@ -54,7 +54,7 @@ memory-both p q =
     record { same-size = size-trans (p .same-size) (q .same-size); entries = λ g. q .entries g ∙ p .entries g }
 
 -- an entry put after memory changed, and memory changed after an entry was put
-put-after : {s v : State} → MemoryOnly s v → (f : ℕ) (e : Entry) → f < N s → wellFormed (N s) e ≡ true → Put s (withEntry v f e) f e
+put-after : {s v : State} → MemoryOnly s v → (f : ℕ) (e : Entry) → f < N s → WellFormed (N s) e → Put s (withEntry v f e) f e
 put-after {s = s} {v = v} m f e inside fits =
     let n : N v ≡ N s = m .same-size .same-N in
     record {
@@ -151,7 +151,7 @@ module _ {s : State} {caller hpa leaf : ℕ} {old : Entry} (p : Fixed s caller h
       })
 
 -- ---- PMERGE, PUNMERGE and PUNFIX: the word that was consulted is in a LEAF, which is none of the named frames
-zero-fits : (n : ℕ) → wellFormed n zeroEntry ≡ true
+zero-fits : (n : ℕ) → WellFormed n zeroEntry
 unfolding zeroEntry isUnowned _or_
 zero-fits n = unowned-fits n SHARED refl
 

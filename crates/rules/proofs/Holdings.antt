@@ -80,7 +80,7 @@ holding-same s u guest f entries words = rw entries (go (entryAt s f) refl)
 
     go : (d : Decoded) → entryAt s f ≡ d → inEntry u guest d ≡ inEntry s guest d
     go (Good e) here = page e (e .fixed) _ (words e here)
-    go Bad here = refl
+    go (Bad reason) here = refl
 
 -- ---- a place is at an address
 present-only : (w : LeafWord) (gpa : ℕ) → inLeaf w ≡ holds gpa → w ≡ Present gpa
@@ -103,4 +103,4 @@ holding-address s guest gpa f = go (entryAt s f) refl
         ⊎-elim (λ fixed. consulted-address s e guest gpa (present-only _ gpa (sym (pick-true _ _ fixed) ∙ h)))
         (λ unfixed. rw (own-only _ _ gpa (sym (pick-false _ _ unfixed) ∙ h)) at (entry-tells s f here .address-fits))
         (true-or-false (e .fixed))
-    go Bad here h = absurd (false≢true (cc))
+    go (Bad reason) here h = absurd (false≢true (cc))

@@ -59,7 +59,7 @@ from-present h k = absurd (false≢true (cc))
 pub leaf-good : (d : Decoded) → isLeaf d ≡ true → (e : Entry) × ((d ≡ Good e) × (e .kind ≡ LEAF))
 unfolding isLeaf
 leaf-good (Good e) h = (e, (refl, eqb-true _ _ h))
-leaf-good Bad h = absurd (false≢true h)
+leaf-good (Bad reason) h = absurd (false≢true h)
 
 pub leaf-apart : (s : State) (f g : ℕ) {e : Entry} → isLeaf (entryAt s f) ≡ true → entryAt s g ≡ Good e → e .kind ≢ LEAF → f ≢ g
 leaf-apart s f g {e} h here other same =

@@ -3,11 +3,14 @@ pub mod Accepted
 pub mod AccessChanges
 pub mod ArgumentLaws
 pub mod AssignmentChanges
+pub mod Carried
+pub mod Cause
 pub mod CensusLaws
 pub mod Chain
 pub mod Changes
 pub mod Consulted
 pub mod Effects
+pub mod FirstReason
 pub mod History
 pub mod HistoryFrom
 pub mod HistoryLists
@@ -18,7 +21,6 @@ pub mod Never
 pub mod Passed
 pub mod PlaceChanges
 pub mod PlaceLaws
-pub mod Reason
 pub mod Sound
 pub mod SoundSteps
 pub mod StateLaws

@@ -42,7 +42,7 @@ module _ (s : State) (guest gpa : ℕ) where
     where
       go : (d : Decoded) → entryAt s f ≡ d → inEntry s guest d ≡ holds gpa → f < N s
       go (Good e) here h = entry-inside s f here
-      go Bad here h = absurd (false≢true (cc))
+      go (Bad reason) here h = absurd (false≢true (cc))
 
   place-is-one : (f : ℕ) → holding s guest f ≡ holds gpa → placeAt s guest gpa f ≡ 1
   unfolding placeIn
@@ -88,4 +88,4 @@ pub unplaced : (h : Holding) (gpa : ℕ) → h ≢ holds gpa → placeIn h gpa �
 unfolding placeIn
 unplaced (holds here) gpa other = pick-false _ _ (ne-eqb here gpa (λ e. other (rw e)))
 unplaced nothing gpa other = refl
-unplaced (fails number) gpa other = refl
+unplaced (fails refusal) gpa other = refl

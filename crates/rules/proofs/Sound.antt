@@ -11,7 +11,7 @@ use Rattle.rules.specs.Leaves.{leafFrame, consulted}
 use Rattle.rules.specs.State.{State, N, entryAt}
 
 pub record Sound (s : State) : Type 0 where
-  pub decodes : (f : ℕ) → f < N s → entryAt s f ≡ Bad → ⊥
+  pub decodes : (f reason : ℕ) → f < N s → entryAt s f ≡ Bad reason → ⊥
   pub alone :
       (f g : ℕ) (d e : Entry) → entryAt s f ≡ Good d → entryAt s g ≡ Good e → d .fixed ≡ true → e .fixed ≡ true
       → leafFrame d ≡ leafFrame e → f ≡ g

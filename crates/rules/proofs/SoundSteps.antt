@@ -42,7 +42,7 @@ unfixed-apart u f e there unfixed g d here fixed same =
 module _ {s : State} (sound : Sound s) where
   -- a state with no fixed page that was not there before
   no-new-page :
-      (u : State) → ((f : ℕ) → f < N u → entryAt u f ≡ Bad → ⊥)
+      (u : State) → ((f reason : ℕ) → f < N u → entryAt u f ≡ Bad reason → ⊥)
       → ((f : ℕ) (e : Entry) → entryAt u f ≡ Good e → e .fixed ≡ true → entryAt s f ≡ Good e)
       → ((f : ℕ) (e : Entry) (guest : ℕ) → entryAt u f ≡ Good e → e .fixed ≡ true → consulted u e guest ≡ Misshapen → ⊥)
       → Sound u
@@ -54,10 +54,10 @@ module _ {s : State} (sound : Sound s) where
       }
 
   -- what stays of the entries and of the words consulted
-  put-decodes : {u : State} {f : ℕ} {e : Entry} → Put s u f e → (g : ℕ) → g < N u → entryAt u g ≡ Bad → ⊥
-  put-decodes {f = f} p g inside bad =
+  put-decodes : {u : State} {f : ℕ} {e : Entry} → Put s u f e → (g reason : ℕ) → g < N u → entryAt u g ≡ Bad reason → ⊥
+  put-decodes {f = f} p g reason inside bad =
       ⊎-elim (λ same. not-bad _ g f (p .here) same bad)
-      (λ other. sound .decodes g (rw (← (p .same-size .same-N)) inside) (sym (p .elsewhere g other) ∙ bad))
+      (λ other. sound .decodes g reason (rw (← (p .same-size .same-N)) inside) (sym (p .elsewhere g other) ∙ bad))
       (same-or-not g f)
 
   put-was :
@@ -151,17 +151,18 @@ module _ {s : State} (sound : Sound s) where
       off g d here fixed =
           (unfixed-apart _ _ _ (e .here) refl g d here fixed, unfixed-apart _ _ _ (e .leaf-here) refl g d here fixed)
 
-      decodes : (g : ℕ) → g < N (unfixing s (frameOf hpa) old gpa) → entryAt (unfixing s (frameOf hpa) old gpa) g ≡ Bad → ⊥
-      decodes g inside bad =
+      decodes :
+          (g reason : ℕ) → g < N (unfixing s (frameOf hpa) old gpa) → entryAt (unfixing s (frameOf hpa) old gpa) g ≡ Bad reason → ⊥
+      decodes g reason inside bad =
           ⊎-elim (λ same. not-bad _ g _ (e .here) same bad)
           (λ other. ⊎-elim (λ same. not-bad _ g _ (e .leaf-here) same bad)
-          (λ off. sound .decodes g (rw (← (e .same-size .same-N)) inside) (sym (e .elsewhere g other off) ∙ bad))
+          (λ off. sound .decodes g reason (rw (← (e .same-size .same-N)) inside) (sym (e .elsewhere g other off) ∙ bad))
           (same-or-not g (leafFrame old)))
           (same-or-not g (frameOf hpa))
 
   writing-sound : {caller gpa f gtype : ℕ} (i value : ℕ) → Way s true caller gpa f gtype → Sound (withWord s f i value)
   writing-sound {f = f} i value w =
-      no-new-page _ (λ g inside bad. sound .decodes g (rw (← (size-word s f i value .same-N)) inside) (sym (same g) ∙ bad))
+      no-new-page _ (λ g reason inside bad. sound .decodes g reason (rw (← (size-word s f i value .same-N)) inside) (sym (same g) ∙ bad))
       (λ g d here fixed. sym (same g) ∙ here)
       (λ g d guest here fixed.
       let page = sym (same g) ∙ here in

@@ -14,13 +14,13 @@ use Rattle.frames.specs.Frame.{zeros}
 use Rattle.frames.proofs.FrameLaws.{count-putWord, framed-putWord, word-put-same, word-put-other-frame, word-put-other-index}
 use Rattle.frames.proofs.FrameLaws.{count-putFrame, framed-putFrame, word-frame-same, word-frame-other, word-zeroed, word-copied}
 use Rattle.frames.proofs.FrameLaws.{frame-long, frame-word, same-words, putWords, words-are-frame}
-use Rattle.entries.specs.Entry.{frameOf, zeroEntry, wellFormed}
+use Rattle.entries.specs.Entry.{frameOf, zeroEntry, WellFormed}
 use Rattle.entries.specs.declared.entry.Entry.{Entry}
 use Rattle.entries.specs.declared.entry.Decoded.the-variants.{Good, Bad}
 use Rattle.entries.proofs.Tells.{Tells, tells}
-use Rattle.rmp.proofs.TableLaws.{covered-put, whole-put, entry-put-same, entry-put-other, put-same, entry-good, entry-empty}
-use Rattle.rules.specs.State.{State, state, emptyTable, N, M, sized, covers, entryAt, wordAt, frameAt, differingAt, withEntry, withWord}
-use Rattle.rules.specs.State.{withFrame}
+use Rattle.rmp.proofs.TableLaws.{covered-put, whole-put, entry-put-same, entry-put-other, put-same, entry-good, entry-bad, entry-empty}
+use Rattle.rules.specs.State.{State, state, emptyTable, N, M, sized, covers}
+use Rattle.rules.specs.State.{entryAt, wordAt, frameAt, differingAt, withEntry, withWord, withFrame}
 
 -- ---- sizes
 pub record Sizes (s : State) : Type 0 where
@@ -94,14 +94,19 @@ module _ (s : State) (f : ℕ) where
   unfolding entryAt N
   entry-inside h = entry-good (s .table) f _ h .0
 
-  pub entry-fits : {e : Entry} → entryAt s f ≡ Good e → wellFormed (N s) e ≡ true
+  pub entry-fits : {e : Entry} → entryAt s f ≡ Good e → WellFormed (N s) e
   unfolding entryAt N
   entry-fits h = entry-good (s .table) f _ h .1
 
   pub entry-tells : {e : Entry} → entryAt s f ≡ Good e → Tells (N s) e
   entry-tells h = tells (N s) _ (entry-fits h)
 
-  pub entry-after-entry : (e : Entry) → f < N s → wellFormed (N s) e ≡ true → entryAt (withEntry s f e) f ≡ Good e
+  -- a bad one that it covers has one of the four reasons
+  pub entry-reason : (reason : ℕ) → f < N s → entryAt s f ≡ Bad reason → (1 ≤ reason) × (reason ≤ 4)
+  unfolding entryAt N
+  entry-reason reason = entry-bad (s .table) f reason
+
+  pub entry-after-entry : (e : Entry) → f < N s → WellFormed (N s) e → entryAt (withEntry s f e) f ≡ Good e
   unfolding entryAt withEntry N
   entry-after-entry e h w = entry-put-same (s .table) f e h w
 
@@ -126,7 +131,7 @@ module _ (s : State) (f : ℕ) where
 pub same-good : (s : State) (g f : ℕ) {d e : Entry} → entryAt s g ≡ Good d → entryAt s f ≡ Good e → g ≡ f → d ≡ e
 same-good s g f h k same = cc
 
-pub not-bad : (s : State) (g f : ℕ) {d : Entry} → entryAt s f ≡ Good d → g ≡ f → entryAt s g ≡ Bad → ⊥
+pub not-bad : (s : State) (g f : ℕ) {d : Entry} {reason : ℕ} → entryAt s f ≡ Good d → g ≡ f → entryAt s g ≡ Bad reason → ⊥
 not-bad s g f h same k = absurd (false≢true (cc))
 
 -- "Empty table: all words zero": every frame is SHARED

@@ -1,8 +1,9 @@
--- What the rules answer is what the call may answer, from memory whose words fit into 64 bits: a call refuses with one of the 17 numbers,
--- or answers a word of memory, what a decoded entry tells, or a census, which counts at most every covered frame.
+-- What the rules answer is what the call may answer, from memory whose words fit into 64 bits, unless it is 5: a call refuses with one of
+-- the 17 numbers, or answers a word of memory, what a decoded entry tells, or a census, which counts at most every covered frame.
 -- Assumes nothing.
-use mathlib.Core.Path.{_≡_}
+use mathlib.Core.Path.{_≡_, refl}
 use mathlib.Core.Bool.{true, false≢true}
+use mathlib.Core.List.{List}
 use mathlib.Core.Logic.{⊎-elim}
 use Prim.Native.Nat.{ℕ, _≤_, _<_}
 use native.Mathlib.Omega.{arith}
@@ -11,30 +12,29 @@ use Rattle.words.proofs.ChoiceLaws.{lt-or-le, pick-either}
 use Rattle.entries.specs.declared.entry.Entry.{Entry}
 use Rattle.entries.proofs.LeafLaws.{address-small}
 use Rattle.entries.proofs.Tells.{Tells}
-use Rattle.rules.specs.Answers.{Told, closed}
+use Rattle.rules.specs.Answers.{Told, refused, closed}
 use Rattle.rules.specs.Assignment.{updateAnswer, validateAnswer}
 use Rattle.rules.specs.Calls.{Call, RMPUPDATE}
+use Rattle.rules.specs.Refusals.{Refusal}
 use Rattle.rules.specs.State.{State}
 use Rattle.rules.specs.Words.{HoldsWords, MayAnswer, is-refused, is-none, is-closed, is-opened, is-already, is-fixed, is-merged}
-use Rattle.rules.specs.Words.{is-unmerged, is-unfixed, is-read, is-written, is-counted, StepAnswers}
+use Rattle.rules.specs.Words.{is-unmerged, is-unfixed, is-read, is-written, is-counted, MeetsNoBadEntry, StepAnswers}
 use Rattle.rules.proofs.Accepted.{Accepted, by-update, by-validate, by-fix, by-merge, by-unmerge, by-unfix, by-read, by-write}
 use Rattle.rules.proofs.Accepted.{by-census}
 use Rattle.rules.proofs.CensusLaws.{tally-most}
-use Rattle.rules.proofs.Reason.{Fault, bad-entry, broken-leaf, ordinary, Reason, plain, fault}
+use Rattle.rules.proofs.Cause.{bad-entry, broken-leaf, ordinary, Cause, plain, fault}
 use Rattle.rules.proofs.StateLaws.{sizes, entry-tells}
 use Rattle.rules.proofs.Stepped.{step-cases}
 
--- ---- a refusal
+-- ---- a refusal other than 5
 ordinary-small : (n : ℕ) → ordinary n ≡ true → n ≤ 17
 ordinary-small n o = ⊎-elim (λ (h : 17 < n). absurd (false≢true (rw (lt-leb n 17 h) at o))) (λ h. h) (lt-or-le 17 n)
 
-fault-small : {s : State} {n : ℕ} → Fault s n → n ≤ 17
-fault-small (bad-entry f inside here) = omega arith
-fault-small (broken-leaf f e guest here fixed word) = omega arith
-
-reason-small : {s : State} {n : ℕ} → Reason s n → n ≤ 17
-reason-small {n = n} (plain o) = ordinary-small n o
-reason-small (fault f) = fault-small f
+refusal-answers :
+    {s : State} {frames : List ℕ} {c : Call} (r : Refusal) → Cause s frames r → MeetsNoBadEntry (refused r) → MayAnswer c (refused r)
+refusal-answers _ (plain {n} o) met = is-refused {number = n} (omega (arith, ordinary-small n o))
+refusal-answers _ (fault (bad-entry f reason inside here first)) met = absurd (met reason refl)
+refusal-answers _ (fault (broken-leaf f e guest here fixed word)) met = is-refused {number = 12} (omega arith)
 
 -- ---- RMPUPDATE
 closed-answers :
@@ -61,5 +61,5 @@ accepted-answers {s} words (by-census {asid} {n} p) =
 
 pub step-answers : StepAnswers
 step-answers s call words =
-    step-cases (λ o. MayAnswer call (o .told)) s call (λ n why. is-refused {number = n} (omega (arith, reason-small why)))
-    (λ told after. accepted-answers words)
+    step-cases (λ o. MeetsNoBadEntry (o .told) → MayAnswer call (o .told)) s call refusal-answers
+    (λ told after passed met. accepted-answers words passed)

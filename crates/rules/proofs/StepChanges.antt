@@ -10,6 +10,7 @@ use Rattle.entries.specs.Entry.{isGuest}
 use Rattle.rules.specs.Answers.{Told, refused, done, none, closed, opened, already, word, count}
 use Rattle.rules.specs.Calls.{Call, RMPUPDATE, PVALIDATE, PFIX, PMERGE, PUNMERGE, PUNFIX, READ, WRITE, CENSUS, step}
 use Rattle.rules.specs.History.{Event, opens, closes, reads, writes, noEvent, byAnswer, accepted, eventOf}
+use Rattle.rules.specs.Refusals.{Refusal}
 use Rattle.rules.specs.State.{State}
 use Rattle.rules.proofs.Accepted.{Accepted, by-update, by-validate, by-fix, by-merge, by-unmerge, by-unfix, by-read, by-write}
 use Rattle.rules.proofs.Accepted.{by-census}
@@ -22,17 +23,17 @@ use Rattle.rules.proofs.Sound.{Sound}
 use Rattle.rules.proofs.Stepped.{step-cases}
 
 -- a refused call is no event
-refused-event : (c : Call) (n : ℕ) → eventOf c (refused n) ≡ noEvent
+refused-event : (c : Call) (r : Refusal) → eventOf c (refused r) ≡ noEvent
 unfolding eventOf byAnswer accepted
-refused-event (RMPUPDATE caller hpa gpa asid kind) n = refl
-refused-event (PVALIDATE caller gpa hpa kind) n = refl
-refused-event (PFIX caller hpa leaf) n = refl
-refused-event (PMERGE caller hpa1 hpa2) n = refl
-refused-event (PUNMERGE caller hpa1 hpa2 asid) n = refl
-refused-event (PUNFIX caller hpa) n = refl
-refused-event (READ caller gpa hpa gtype ntype index) n = pick-same _ _
-refused-event (WRITE caller gpa hpa gtype ntype index value) n = pick-same _ _
-refused-event (CENSUS asid) n = refl
+refused-event (RMPUPDATE caller hpa gpa asid kind) r = refl
+refused-event (PVALIDATE caller gpa hpa kind) r = refl
+refused-event (PFIX caller hpa leaf) r = refl
+refused-event (PMERGE caller hpa1 hpa2) r = refl
+refused-event (PUNMERGE caller hpa1 hpa2 asid) r = refl
+refused-event (PUNFIX caller hpa) r = refl
+refused-event (READ caller gpa hpa gtype ntype index) r = pick-same _ _
+refused-event (WRITE caller gpa hpa gtype ntype index value) r = pick-same _ _
+refused-event (CENSUS asid) r = refl
 
 accepted-change :
     {s after : State} {c : Call} {told : Told} (guest : ℕ) → Sound s → isGuest guest ≡ true → Accepted s c told after
@@ -51,7 +52,7 @@ accepted-change guest sound range (by-census p) = unchanged _ guest
 pub step-change :
     (s : State) (guest : ℕ) (c : Call) → Sound s → isGuest guest ≡ true → Change s (step s c .after) (eventOf c (step s c .told)) guest
 step-change s guest c sound range =
-    step-cases (λ o. Change s (o .after) (eventOf c (o .told)) guest) s c (λ n why. rw (refused-event c n) (unchanged s guest))
+    step-cases (λ o. Change s (o .after) (eventOf c (o .told)) guest) s c (λ r why. rw (refused-event c r) (unchanged s guest))
     (λ told after. accepted-change guest sound range)
 
 -- ---- a read: no other call is one

@@ -1,8 +1,9 @@
--- Every call is refused for a reason, with the state as it was, or has passed its checks and done what its rule says. The proofs of
+-- Every call is refused for a cause, with the state as it was, or has passed its checks and done what its rule says. The proofs of
 -- demand 3 go by these two cases and open no rule.
 -- Assumes nothing.
 use mathlib.Core.Path.{_≡_, refl, _∙_}
 use mathlib.Core.Bool.{Bool, true, false, not}
+use mathlib.Core.List.{[], _∷_}
 use Prim.Native.Nat.{ℕ}
 use native.Mathlib.Nat.{le-refl}
 use lib.Dec.{eqb}
@@ -21,13 +22,15 @@ use Rattle.rules.specs.Calls.{Call, RMPUPDATE, PVALIDATE, PFIX, PMERGE, 
 use Rattle.rules.specs.Census.{Tally, total, stopped, reported, census}
 use Rattle.rules.specs.Leaves.{isLeaf}
 use Rattle.rules.specs.Merging.{pfix, pmerge, punmerge, punfix}
-use Rattle.rules.specs.Refusals.{TYPE}
+use Rattle.rules.specs.Reasons.{framesOf}
+use Rattle.rules.specs.Refusals.{Refusal, TYPE}
 use Rattle.rules.specs.State.{State, N, covers}
 use Rattle.rules.proofs.Accepted.{Accepted, by-update, by-validate, by-fix, by-merge, by-unmerge, by-unfix, by-read, by-write}
 use Rattle.rules.proofs.Accepted.{by-census, Stepped, refuses, accepts}
 use Rattle.rules.proofs.Chain.{granted, turned-down, chosen, checked, checked-not, begun, decoded-by, placed-by, vacant-by}
+use Rattle.rules.proofs.FirstReason.{named-good}
 use Rattle.rules.proofs.Passed.{Way, above, shared, own, merged, Accessed, Counted}
-use Rattle.rules.proofs.Reason.{Reason, fault, tally-stops}
+use Rattle.rules.proofs.Cause.{Cause, fault, tally-stops}
 use Rattle.rules.proofs.StateLaws.{covered-frame, uncovered-frame}
 
 host-is : (caller : ℕ) → isHost caller ≡ true → caller ≡ 0
@@ -45,10 +48,10 @@ leaf-is d e h k = rw h k
 module _ (s : State) where
   update-stepped :
       (caller hpa gpa asid kind : ℕ) → Stepped s (RMPUPDATE caller hpa gpa asid kind) (rmpupdate s caller hpa gpa asid kind)
-  unfolding rmpupdate
+  unfolding rmpupdate framesOf
   update-stepped caller hpa gpa asid kind =
       begun _ _ _ _ λ size arguments host inside.
-      decoded-by _ _ (covered-frame s _ inside) λ old here.
+      decoded-by _ _ [] refl (covered-frame s _ inside) λ old here.
       checked-not _ _ _ refl λ no-leaf.
       checked-not _ _ _ refl λ unfixed.
       granted
@@ -64,10 +67,10 @@ module _ (s : State) where
       }))
 
   validate-stepped : (caller gpa hpa kind : ℕ) → Stepped s (PVALIDATE caller gpa hpa kind) (pvalidate s caller gpa hpa kind)
-  unfolding pvalidate
+  unfolding pvalidate framesOf
   validate-stepped caller gpa hpa kind =
       begun _ _ _ _ λ size arguments guest inside.
-      decoded-by _ _ (covered-frame s _ inside) λ old here.
+      decoded-by _ _ [] refl (covered-frame s _ inside) λ old here.
       checked _ _ _ refl λ type.
       checked _ _ _ refl λ owner.
       checked-not _ _ _ refl λ unfixed.
@@ -87,11 +90,11 @@ module _ (s : State) where
       }))
 
   fix-stepped : (caller hpa leaf : ℕ) → Stepped s (PFIX caller hpa leaf) (pfix s caller hpa leaf)
-  unfolding pfix bothEntered
+  unfolding pfix bothEntered framesOf
   fix-stepped caller hpa leaf =
       begun _ _ _ _ λ size arguments host inside.
-      decoded-by _ _ (covered-frame s _ (and-left _ _ inside)) λ old here.
-      decoded-by _ _ (covered-frame s _ (and-right _ _ inside)) λ leafs there.
+      decoded-by _ _ _ refl (covered-frame s _ (and-left _ _ inside)) λ old here.
+      decoded-by _ _ [] (named-good s _ old _ here) (covered-frame s _ (and-right _ _ inside)) λ leafs there.
       checked _ _ _ refl λ types.
       checked-not _ _ _ refl λ unfixed.
       checked _ _ _ refl λ validated.
@@ -113,11 +116,11 @@ module _ (s : State) where
       }))
 
   merge-stepped : (caller hpa1 hpa2 : ℕ) → Stepped s (PMERGE caller hpa1 hpa2) (pmerge s caller hpa1 hpa2)
-  unfolding pmerge bothEntered
+  unfolding pmerge bothEntered framesOf
   merge-stepped caller hpa1 hpa2 =
       begun _ _ _ _ λ size arguments host inside.
-      decoded-by _ _ (covered-frame s _ (and-left _ _ inside)) λ one here1.
-      decoded-by _ _ (covered-frame s _ (and-right _ _ inside)) λ two here2.
+      decoded-by _ _ _ refl (covered-frame s _ (and-left _ _ inside)) λ one here1.
+      decoded-by _ _ [] (named-good s _ one _ here1) (covered-frame s _ (and-right _ _ inside)) λ two here2.
       checked _ _ _ refl λ types.
       checked _ _ _ refl λ fixed1.
       checked-not _ _ _ refl λ unfixed2.
@@ -144,11 +147,11 @@ module _ (s : State) where
       }))
 
   unmerge-stepped : (caller hpa1 hpa2 asid : ℕ) → Stepped s (PUNMERGE caller hpa1 hpa2 asid) (punmerge s caller hpa1 hpa2 asid)
-  unfolding punmerge bothEntered
+  unfolding punmerge bothEntered framesOf
   unmerge-stepped caller hpa1 hpa2 asid =
       begun _ _ _ _ λ size arguments host inside.
-      decoded-by _ _ (covered-frame s _ (and-left _ _ inside)) λ one here1.
-      decoded-by _ _ (covered-frame s _ (and-right _ _ inside)) λ two here2.
+      decoded-by _ _ _ refl (covered-frame s _ (and-left _ _ inside)) λ one here1.
+      decoded-by _ _ [] (named-good s _ one _ here1) (covered-frame s _ (and-right _ _ inside)) λ two here2.
       checked _ _ _ refl λ types.
       checked _ _ _ refl λ fixed1.
       placed-by _ _ _ _ here1 fixed1 λ gpa place.
@@ -169,10 +172,10 @@ module _ (s : State) where
       }))
 
   unfix-stepped : (caller hpa : ℕ) → Stepped s (PUNFIX caller hpa) (punfix s caller hpa)
-  unfolding punfix
+  unfolding punfix framesOf
   unfix-stepped caller hpa =
       begun _ _ _ _ λ size arguments host inside.
-      decoded-by _ _ (covered-frame s _ inside) λ old here.
+      decoded-by _ _ [] refl (covered-frame s _ inside) λ old here.
       checked _ _ _ refl λ type.
       checked _ _ _ refl λ fixed.
       placed-by _ _ _ _ here fixed λ gpa place.
@@ -192,7 +195,8 @@ module _ (s : State) where
       }))
 
   -- the checks of an access, whatever it is to do
-  module _ {c : Call} (writes : Bool) (caller gpa hpa gtype ntype index : ℕ) (rest : Verdict) where
+  module _ {c : Call} (writes : Bool) (caller gpa hpa gtype ntype index : ℕ) (rest : Verdict)
+      (named : framesOf s c ≡ frameOf hpa ∷ []) where
     way-taken :
         (Way s writes caller gpa (frameOf hpa) gtype → Stepped s c (settle s rest))
         → Stepped s c
@@ -202,7 +206,7 @@ module _ (s : State) where
         chosen _ _ _
         (λ covered.
         let inside = covered-frame s _ covered in
-        decoded-by _ _ inside λ page here.
+        decoded-by _ _ [] (rw named refl) inside λ page here.
         checked _ _ _ refl λ type.
         chosen _ _ _
         (λ is-shared. ok (shared page inside here (eqb-true _ _ type ∙ eqb-true _ _ is-shared) (eqb-true _ _ is-shared)))
@@ -241,30 +245,31 @@ module _ (s : State) where
   read-stepped :
       (caller gpa hpa gtype ntype index : ℕ)
       → Stepped s (READ caller gpa hpa gtype ntype index) (read s caller gpa hpa gtype ntype index)
-  unfolding read
+  unfolding read framesOf
   read-stepped caller gpa hpa gtype ntype index =
-      access-stepped false caller gpa hpa gtype ntype index _ λ passed. granted (by-read passed)
+      access-stepped false caller gpa hpa gtype ntype index _ refl λ passed. granted (by-read passed)
 
   write-stepped :
       (caller gpa hpa gtype ntype index value : ℕ)
       → Stepped s (WRITE caller gpa hpa gtype ntype index value) (write s caller gpa hpa gtype ntype index value)
-  unfolding write
+  unfolding write framesOf
   write-stepped caller gpa hpa gtype ntype index value =
-      access-stepped true caller gpa hpa gtype ntype index _ λ passed. granted (by-write passed)
+      access-stepped true caller gpa hpa gtype ntype index _ refl λ passed. granted (by-write passed)
 
   reported-stepped :
-      (asid : ℕ) (t : Tally) → ((n : ℕ) → t ≡ stopped n → Reason s n) → ((n : ℕ) → t ≡ total n → Counted s asid n)
+      (asid : ℕ) (t : Tally) → ((r : Refusal) → t ≡ stopped r → Cause s (framesOf s (CENSUS asid)) r)
+      → ((n : ℕ) → t ≡ total n → Counted s asid n)
       → Stepped s (CENSUS asid) (settle s (reported s t))
   unfolding reported
   reported-stepped asid (total n) why ok = granted (by-census (ok n refl))
-  reported-stepped asid (stopped n) why ok = turned-down (why n refl)
+  reported-stepped asid (stopped r) why ok = turned-down (why r refl)
 
   census-stepped : (asid : ℕ) → Stepped s (CENSUS asid) (census s asid)
-  unfolding census
+  unfolding census framesOf
   census-stepped asid =
       checked _ _ _ refl λ size.
       checked _ _ _ refl λ guest.
-      reported-stepped asid _ (λ n h. fault (tally-stops s n asid (N s) (le-refl _) h)) λ n sum.
+      reported-stepped asid _ (λ r h. fault (tally-stops s asid r (N s) (le-refl _) h)) λ n sum.
       record { size = size; guest = guest; sum = sum }
 
 pub stepped : (s : State) (c : Call) → Stepped s c (step s c)
@@ -279,11 +284,11 @@ stepped s (READ caller gpa hpa gtype ntype index) = read-stepped s caller gpa hp
 stepped s (WRITE caller gpa hpa gtype ntype index value) = write-stepped s caller gpa hpa gtype ntype index value
 stepped s (CENSUS asid) = census-stepped s asid
 
--- what holds of a refusal for a reason, and of an accepted call, holds of what any call comes to
-module _ (P : Outcome → Type 0) (s : State) (c : Call) (refusal : (n : ℕ) → Reason s n → P (outcome (refused n) s))
+-- what holds of a refusal for a cause, and of an accepted call, holds of what any call comes to
+module _ (P : Outcome → Type 0) (s : State) (c : Call) (refusal : (r : Refusal) → Cause s (framesOf s c) r → P (outcome (refused r) s))
     (acceptance : (told : Told) (after : State) → Accepted s c told after → P (outcome told after)) where
   either : (o : Outcome) → Stepped s c o → P o
-  either _ (refuses n why) = refusal n why
+  either _ (refuses r why) = refusal r why
   either _ (accepts passed) = acceptance _ _ passed
 
   pub step-cases : P (step s c)

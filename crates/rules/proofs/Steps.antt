@@ -1,4 +1,4 @@
--- Laws of the calls: a refusal changes nothing and has a reason, READ, CENSUS and a PVALIDATE answered *already* change nothing, and no
+-- Laws of the calls: a refusal changes nothing and has a cause, READ, CENSUS and a PVALIDATE answered *already* change nothing, and no
 -- call changes a size. Each is a law of refusals and of accepted calls.
 -- Assumes nothing.
 use mathlib.Core.Path.{_≡_, refl}
@@ -13,41 +13,43 @@ use Rattle.rules.specs.Answers.{Told, refused, already}
 use Rattle.rules.specs.Assignment.{updateAnswer, validating, validateAnswer, pvalidate}
 use Rattle.rules.specs.Calls.{Call, PVALIDATE, READ, CENSUS, step}
 use Rattle.rules.specs.Census.{census}
+use Rattle.rules.specs.Reasons.{framesOf}
+use Rattle.rules.specs.Refusals.{Refusal}
 use Rattle.rules.specs.State.{State, entryAt}
 use Rattle.rules.proofs.Accepted.{Accepted, by-update, by-validate, by-fix, by-merge, by-unmerge, by-unfix, by-read, by-write}
 use Rattle.rules.proofs.Accepted.{by-census}
 use Rattle.rules.proofs.Effects.{assigning-does, validating-does, fixing-does, merging-does, unmerging-does, unfixing-does}
-use Rattle.rules.proofs.Reason.{Reason}
+use Rattle.rules.proofs.Cause.{Cause}
 use Rattle.rules.proofs.StateLaws.{same-entry, SameSize, size-refl, size-word}
 use Rattle.rules.proofs.Stepped.{step-cases}
 
--- ---- a refusal changes nothing, and has a reason
+-- ---- a refusal changes nothing, and has a cause
 -- an accepted call answers no refusal
-not-refused : {s after : State} {c : Call} {told : Told} → Accepted s c told after → (n : ℕ) → told ≡ refused n → ⊥
+not-refused : {s after : State} {c : Call} {told : Told} → Accepted s c told after → (r : Refusal) → told ≡ refused r → ⊥
 unfolding updateAnswer validateAnswer
-not-refused (by-update p) n =
-    pick-either (λ told. told ≡ refused n → ⊥) _ _ _ (λ v h. absurd (false≢true (cc))) (λ v h. absurd (false≢true (cc)))
-not-refused (by-validate p) n =
-    pick-either (λ told. told ≡ refused n → ⊥) _ _ _ (λ v h. absurd (false≢true (cc))) (λ v h. absurd (false≢true (cc)))
-not-refused (by-fix p) n = λ h. absurd (false≢true (cc))
-not-refused (by-merge p) n = λ h. absurd (false≢true (cc))
-not-refused (by-unmerge p) n = λ h. absurd (false≢true (cc))
-not-refused (by-unfix p) n = λ h. absurd (false≢true (cc))
-not-refused (by-read p) n = λ h. absurd (false≢true (cc))
-not-refused (by-write p) n = λ h. absurd (false≢true (cc))
-not-refused (by-census p) n = λ h. absurd (false≢true (cc))
+not-refused (by-update p) r =
+    pick-either (λ told. told ≡ refused r → ⊥) _ _ _ (λ v h. absurd (false≢true (cc))) (λ v h. absurd (false≢true (cc)))
+not-refused (by-validate p) r =
+    pick-either (λ told. told ≡ refused r → ⊥) _ _ _ (λ v h. absurd (false≢true (cc))) (λ v h. absurd (false≢true (cc)))
+not-refused (by-fix p) r = λ h. absurd (false≢true (cc))
+not-refused (by-merge p) r = λ h. absurd (false≢true (cc))
+not-refused (by-unmerge p) r = λ h. absurd (false≢true (cc))
+not-refused (by-unfix p) r = λ h. absurd (false≢true (cc))
+not-refused (by-read p) r = λ h. absurd (false≢true (cc))
+not-refused (by-write p) r = λ h. absurd (false≢true (cc))
+not-refused (by-census p) r = λ h. absurd (false≢true (cc))
 
-refusal : (s : State) (c : Call) (n : ℕ) → step s c .told ≡ refused n → (step s c .after ≡ s) × Reason s n
-refusal s c n =
-    step-cases (λ o. o .told ≡ refused n → (o .after ≡ s) × Reason s n) s c
-    (λ m why h. let same : m ≡ n = cc in (refl, rw same at why))
-    (λ told after passed h. absurd (not-refused passed n h))
+refusal : (s : State) (c : Call) (r : Refusal) → step s c .told ≡ refused r → (step s c .after ≡ s) × Cause s (framesOf s c) r
+refusal s c r =
+    step-cases (λ o. o .told ≡ refused r → (o .after ≡ s) × Cause s (framesOf s c) r) s c
+    (λ m why h. let same : m ≡ r = cc in (refl, rw same at why))
+    (λ told after passed h. absurd (not-refused passed r h))
 
-pub refused-keeps : (s : State) (c : Call) (n : ℕ) → step s c .told ≡ refused n → step s c .after ≡ s
-refused-keeps s c n h = refusal s c n h .0
+pub refused-keeps : (s : State) (c : Call) (r : Refusal) → step s c .told ≡ refused r → step s c .after ≡ s
+refused-keeps s c r h = refusal s c r h .0
 
-pub refused-why : (s : State) (c : Call) (n : ℕ) → step s c .told ≡ refused n → Reason s n
-refused-why s c n h = refusal s c n h .1
+pub refused-why : (s : State) (c : Call) (r : Refusal) → step s c .told ≡ refused r → Cause s (framesOf s c) r
+refused-why s c r h = refusal s c r h .1
 
 -- ---- READ and CENSUS change nothing
 pub read-keeps : (s : State) (caller gpa hpa gtype ntype index : ℕ) → read s caller gpa hpa gtype ntype index .after ≡ s

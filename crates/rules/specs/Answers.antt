@@ -1,17 +1,18 @@
 -- 01, "Refusal numbers" and "The calls": what a call answers, and a call as a chain of checks, each with the number of its refusal,
--- and then what is done. "A refusal returns its number alone and changes no word of table or memory": that is said once, in `settle`.
+-- and then what is done. "A refusal returns its number alone and changes no word of table or memory": that is said once, in `settle`. (02,
+-- Q-2: "5 no longer comes alone".)
 use mathlib.Core.Bool.{Bool, not}
 use Prim.Native.Nat.{ℕ}
 use Rattle.words.specs.Choice.{pick}
 use Rattle.entries.specs.declared.entry.Entry.{Entry}
 use Rattle.entries.specs.declared.entry.Decoded.{Decoded}
 use Rattle.entries.specs.declared.entry.Decoded.the-variants.{Good, Bad}
-use Rattle.rules.specs.Refusals.{GEOMETRY, ARGUMENT, CALLER, OUTSIDE, BAD-ENTRY}
+use Rattle.rules.specs.Refusals.{Refusal, GEOMETRY, ARGUMENT, CALLER, OUTSIDE, BAD-ENTRY}
 use Rattle.rules.specs.State.{State, sized}
 
 -- the answers, in the paper's words: `done` is the plain `ok` of PFIX, PMERGE, PUNMERGE, PUNFIX and WRITE
 pub data Told : Type 0 where
-  refused : (number : ℕ) → Told
+  refused : (refusal : Refusal) → Told
   done : Told
   -- RMPUPDATE
   none : Told
@@ -32,21 +33,21 @@ pub record Outcome : Type 0 where
 abbrev pub outcome : Told → State → Outcome
 outcome told after = record { told = told; after = after }
 
--- what the checks come to: the number of the first that fails, or an answer with what was done
+-- what the checks come to: the refusal of the first that fails, or an answer with what was done
 pub data Verdict : Type 0 where
-  refuse : (number : ℕ) → Verdict
+  refuse : (refusal : Refusal) → Verdict
   grant : (answer : Told) (after : State) → Verdict
 
 unfoldable pub settle : State → Verdict → Outcome
-settle s (refuse number) = outcome (refused number) s
+settle s (refuse refusal) = outcome (refused refusal) s
 settle s (grant answer after) = outcome answer after
 
--- a check: unless the test passes, its number; else what follows. And the other way: when the test holds, its number.
-unfoldable pub unless : Bool → ℕ → Verdict → Verdict
-unless passes number rest = pick passes rest (refuse number)
+-- a check: unless the test passes, its refusal; else what follows. And the other way: when the test holds, its refusal.
+unfoldable pub unless : Bool → Refusal → Verdict → Verdict
+unless passes refusal rest = pick passes rest (refuse refusal)
 
-unfoldable pub when : Bool → ℕ → Verdict → Verdict
-when holds number rest = unless (not holds) number rest
+unfoldable pub when : Bool → Refusal → Verdict → Verdict
+when holds refusal rest = unless (not holds) refusal rest
 
 -- "Each begins with 1, 2, 3, 4": the sizes, the arguments, the party, the named frames
 unfoldable pub begins : State → Bool → Bool → Bool → Verdict → Verdict
@@ -56,11 +57,11 @@ begins s arguments party inside rest =
     (unless party CALLER
     (unless inside OUTSIDE rest)))
 
--- "An entry is decoded before use; a call goes on only with a decoded entry."
+-- "An entry is decoded before use; a call goes on only with a decoded entry." A bad one refuses with 5 and its reason.
 unfoldable pub entered : Decoded → (Entry → Verdict) → Verdict
 entered (Good e) rest = rest e
-entered Bad rest = refuse BAD-ENTRY
+entered (Bad reason) rest = refuse (BAD-ENTRY reason)
 
--- "5 (both)": the entry of the first named frame, then that of the second
+-- "5 (both)": the entry of the first named frame, then that of the second. So the reason is "the first-named bad frame's".
 unfoldable pub bothEntered : Decoded → Decoded → (Entry → Entry → Verdict) → Verdict
 bothEntered one two rest = entered one λ e. entered two λ f. rest e f

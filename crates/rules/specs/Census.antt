@@ -9,14 +9,14 @@ use Rattle.entries.specs.declared.leaf.LeafWord.{LeafWord}
 use Rattle.entries.specs.declared.leaf.LeafWord.the-variants.{Absent, Present, Misshapen}
 use Rattle.rules.specs.Answers.{count, Outcome, Verdict, refuse, grant, settle, unless}
 use Rattle.rules.specs.Leaves.{consulted}
-use Rattle.rules.specs.Refusals.{GEOMETRY, ARGUMENT, BAD-ENTRY, BROKEN-LEAF}
+use Rattle.rules.specs.Refusals.{Refusal, GEOMETRY, ARGUMENT, BAD-ENTRY, BROKEN-LEAF}
 use Rattle.rules.specs.State.{State, N, sized, entryAt}
 
 -- what a frame is to a guest: the guest's place at an address, no place of it, or what a census refuses with
 pub data Holding : Type 0 where
   holds : (gpa : ℕ) → Holding
   nothing : Holding
-  fails : (number : ℕ) → Holding
+  fails : (refusal : Refusal) → Holding
 
 -- ".. or a fixed page in whose leaf its word is present with that address"
 unfoldable pub inLeaf : LeafWord → Holding
@@ -30,7 +30,7 @@ inEntry s guest (Good page) =
     pick (page .fixed)
     (inLeaf (consulted s page guest))
     (pick ((page .validated) and eqb (page .asid) guest) (holds (page .address)) nothing)
-inEntry s guest Bad = fails BAD-ENTRY
+inEntry s guest (Bad reason) = fails (BAD-ENTRY reason)
 
 unfoldable pub holding : State → ℕ → ℕ → Holding
 holding s guest frame = inEntry s guest (entryAt s frame)
@@ -39,7 +39,7 @@ holding s guest frame = inEntry s guest (entryAt s frame)
 unfoldable pub placeIn : Holding → ℕ → ℕ
 placeIn (holds here) gpa = pick (eqb here gpa) 1 0
 placeIn nothing gpa = 0
-placeIn (fails number) gpa = 0
+placeIn (fails refusal) gpa = 0
 
 unfoldable pub placesBelow : State → ℕ → ℕ → ℕ → ℕ
 placesBelow s guest gpa zero = 0
@@ -51,13 +51,13 @@ places s guest gpa = placesBelow s guest gpa (N s)
 -- "Frames in rising order; the first 5 or 12 met refuses": how many places among the first n frames, or that refusal
 pub data Tally : Type 0 where
   total : (places : ℕ) → Tally
-  stopped : (number : ℕ) → Tally
+  stopped : (refusal : Refusal) → Tally
 
 unfoldable pub counted : Tally → Holding → Tally
 counted (total n) (holds gpa) = total (n + 1)
 counted (total n) nothing = total n
-counted (total n) (fails number) = stopped number
-counted (stopped number) holding = stopped number
+counted (total n) (fails refusal) = stopped refusal
+counted (stopped refusal) holding = stopped refusal
 
 unfoldable pub tally : State → ℕ → ℕ → Tally
 tally s guest zero = total 0
@@ -66,7 +66,7 @@ tally s guest (suc n) = counted (tally s guest n) (holding s guest n)
 -- "Answer: the number of places of this guest." (CENSUS has only 1 and 2: "2 if asid is 0 or above 511")
 unfoldable pub reported : State → Tally → Verdict
 reported s (total n) = grant (count n) s
-reported s (stopped number) = refuse number
+reported s (stopped refusal) = refuse refusal
 
 unfoldable pub census : State → ℕ → Outcome
 census s asid =

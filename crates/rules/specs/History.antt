@@ -46,7 +46,7 @@ pub data Event : Type 0 where
 
 -- the event of an answer: none for a refusal, one for *closed*, one for *opened*, one for every other answer
 unfoldable pub byAnswer : Told → (ℕ → ℕ → Event) → Event → Event → Event
-byAnswer (refused number) ifClosed ifOpened ifElse = noEvent
+byAnswer (refused refusal) ifClosed ifOpened ifElse = noEvent
 byAnswer done ifClosed ifOpened ifElse = ifElse
 byAnswer none ifClosed ifOpened ifElse = ifElse
 byAnswer (closed guest gpa) ifClosed ifOpened ifElse = ifClosed guest gpa

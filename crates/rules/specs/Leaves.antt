@@ -20,7 +20,7 @@ leafFrame page = frameOf (page .address)
 
 unfoldable pub isLeaf : Decoded → Bool
 isLeaf (Good e) = eqb (e .kind) LEAF
-isLeaf Bad = false
+isLeaf (Bad reason) = false
 
 -- the word consulted: the guest's in the page's leaf. A leaf whose entry is not a well formed LEAF says as little as a misshapen word.
 unfoldable pub consulted : State → Entry → ℕ → LeafWord
@@ -41,7 +41,7 @@ vacant Absent rest = rest
 -- 15: one of the first n frames has a well formed FIXED entry that names the leaf at this address
 unfoldable pub namesLeaf : Decoded → ℕ → Bool
 namesLeaf (Good e) leaf = (e .fixed) and eqb (e .address) leaf
-namesLeaf Bad leaf = false
+namesLeaf (Bad reason) leaf = false
 
 unfoldable pub leafInUse : State → ℕ → ℕ → Bool
 leafInUse s leaf zero = false

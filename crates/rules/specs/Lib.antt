@@ -9,6 +9,7 @@ pub mod Census
 pub mod History
 pub mod Leaves
 pub mod Merging
+pub mod Reasons
 pub mod Refusals
 pub mod State
 pub mod Words

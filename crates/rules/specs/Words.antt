@@ -1,9 +1,11 @@
 -- Numbers of 64 bits. Code has no others, while the rules' numbers have no bound: what is claimed of what is printed needs that memory's
 -- words, and the numbers of calls and answers, fit.
 use mathlib.Core.List.{List, [], _∷_}
+use mathlib.Core.Logic.{_≢_}
 use Prim.Native.Nat.{ℕ, _<_, _^_}
 use Rattle.rules.specs.Answers.{Told, refused, done, none, closed, opened, already, word, count}
 use Rattle.rules.specs.Calls.{Call, RMPUPDATE, PVALIDATE, PFIX, PMERGE, PUNMERGE, PUNFIX, READ, WRITE, CENSUS, step}
+use Rattle.rules.specs.Refusals.{alone, BAD-ENTRY}
 use Rattle.rules.specs.State.{State, wordAt}
 
 -- every number of a list fits into a word
@@ -27,9 +29,9 @@ numbers (READ caller gpa hpa gtype ntype index) = caller ∷ gpa ∷ hpa ∷ gty
 numbers (WRITE caller gpa hpa gtype ntype index value) = caller ∷ gpa ∷ hpa ∷ gtype ∷ ntype ∷ index ∷ value ∷ []
 numbers (CENSUS asid) = asid ∷ []
 
--- 01, "The calls": what a call may answer, each number in 64 bits
+-- 01, "The calls": what a call may answer, each number in 64 bits, where it meets no bad entry: a refusal is then its number alone
 pub data MayAnswer : Call → Told → Type 0 where
-  is-refused : {call : Call} {number : ℕ} → number < 2 ^ 64 → MayAnswer call (refused number)
+  is-refused : {call : Call} {number : ℕ} → number < 2 ^ 64 → MayAnswer call (refused (alone number))
   is-none : {caller hpa gpa asid kind : ℕ} → MayAnswer (RMPUPDATE caller hpa gpa asid kind) none
   is-closed :
       {caller hpa gpa asid kind guest address : ℕ} → guest < 2 ^ 64 → address < 2 ^ 64
@@ -44,9 +46,13 @@ pub data MayAnswer : Call → Told → Type 0 where
   is-written : {caller gpa hpa gtype ntype index value : ℕ} → MayAnswer (WRITE caller gpa hpa gtype ntype index value) done
   is-counted : {asid places : ℕ} → places < 2 ^ 64 → MayAnswer (CENSUS asid) (count places)
 
+-- an answer other than 5
+abbrev pub MeetsNoBadEntry : Told → Type 0
+MeetsNoBadEntry told = (reason : ℕ) → told ≢ refused (BAD-ENTRY reason)
+
 -- from memory whose words fit, what the rules answer is what the call may answer; and they still fit after a call whose numbers do
 abbrev pub StepAnswers : Type 0
-StepAnswers = (s : State) (call : Call) → HoldsWords s → MayAnswer call (step s call .told)
+StepAnswers = (s : State) (call : Call) → HoldsWords s → MeetsNoBadEntry (step s call .told) → MayAnswer call (step s call .told)
 
 abbrev pub WordsStay : Type 0
 WordsStay = (s : State) (call : Call) → HoldsWords s → AreWords (numbers call) → HoldsWords (step s call .after)

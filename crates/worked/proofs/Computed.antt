@@ -4,7 +4,7 @@ use Rattle.words.specs.Choice.{pick, _and_, _or_}
 use Rattle.words.specs.Run.{differing}
 use Rattle.frames.specs.Frame.{frameCount, isFramed, wordIn, frameIn, zeros, putWord, putFrame, differingIn}
 use Rattle.entries.specs.Entry.{isAddress, frameOf, isParty, isGuest, isOwned, isUnowned, entry, zeroEntry, asidFits, flagsFit}
-use Rattle.entries.specs.Entry.{addressFits, wellFormed, fields, decoded, bit, encoded, toValidated, toFixed, toUnfixed}
+use Rattle.entries.specs.Entry.{addressFits, rule, byRules, fields, decoded, bit, encoded, toValidated, toFixed, toUnfixed}
 use Rattle.entries.specs.Leaf.{leafWord, presentAt}
 use Rattle.rmp.specs.Table.{covered, isWhole, entryIn, putEntry}
 use Rattle.rules.specs.Access.{unfixedAccess, fixedAccess, coveredAccess, access, read, write}
@@ -20,7 +20,7 @@ use Rattle.rules.specs.State.{State, N, M, sized, covers, entryAt, wordAt, fram
 
 unfoldable pub computed : State → Call → Outcome
 unfolding pick _and_ _or_ differing frameCount isFramed wordIn frameIn zeros putWord putFrame differingIn
-    isAddress isOwned isUnowned entry zeroEntry asidFits flagsFit addressFits wellFormed fields decoded bit encoded toValidated
+    isAddress isOwned isUnowned entry zeroEntry asidFits flagsFit addressFits rule byRules fields decoded bit encoded toValidated
     toFixed toUnfixed leafWord presentAt covered isWhole entryIn putEntry unfixedAccess fixedAccess coveredAccess access read
     write settle unless when begins entered bothEntered isParty isGuest isHost updateArguments validateArguments twoFrameArguments unmergeArguments oneFrameArguments
     accessArguments mayAccess assigning updateAnswer rmpupdate validating validateAnswer pvalidate step inLeaf inEntry holding counted tally

@@ -3,3 +3,4 @@ pub mod Computed
 pub mod Examples
 pub mod Output
 pub mod Pages
+pub mod Reasons

@@ -6,6 +6,7 @@ use Prim.Native.Nat.{ℕ, _-_}
 use lib.ListN.{replicate}
 use Rattle.rules.specs.Answers.{Told, refused, done, none, closed, opened, already, word, count, Outcome, outcome}
 use Rattle.rules.specs.Calls.{Call, RMPUPDATE, PVALIDATE, PFIX, PMERGE, PUNMERGE, PUNFIX, READ, WRITE, CENSUS}
+use Rattle.rules.specs.Refusals.{alone, BAD-ENTRY}
 use Rattle.rules.specs.State.{State, state}
 
 pub record Example : Type 0 where
@@ -13,12 +14,15 @@ pub record Example : Type 0 where
   pub call : Call
   pub gives : Outcome
 
--- an accepted call, with its answer and the state after it; and a refused one, with its number
+-- an accepted call, with its answer and the state after it; a refused one, with its number; and one refused with 5, with the reason
 abbrev pub accepts : State → Call → Told → State → Example
 accepts before call told after = record { before = before; call = call; gives = outcome told after }
 
 abbrev pub refuses : State → Call → ℕ → Example
-refuses before call number = record { before = before; call = call; gives = outcome (refused number) before }
+refuses before call number = record { before = before; call = call; gives = outcome (refused (alone number)) before }
+
+abbrev pub finds : State → Call → ℕ → Example
+finds before call reason = record { before = before; call = call; gives = outcome (refused (BAD-ENTRY reason)) before }
 
 -- frames: all zero; one word that is not; two words that are not
 unfoldable pub blank : List ℕ
@@ -115,7 +119,7 @@ examples =
     ∷ refuses owned (READ 7 0x50001 0 2 2 3) 2
     ∷ refuses owned (READ 0 0x50000 0 2 2 3) 3
     ∷ refuses owned (READ 7 0x50000 0x1000 2 2 3) 4
-    ∷ refuses badEntry (READ 7 0x50000 0 2 2 3) 5
+    ∷ finds badEntry (READ 7 0x50000 0 2 2 3) 1
     ∷ refuses owned (READ 9 0x50000 0 2 2 3) 7
     ∷ refuses unopened (READ 7 0x50000 0 2 2 3) 9
     ∷ refuses apart (PMERGE 0 0 0x1000) 11
@@ -153,22 +157,22 @@ examples =
     ∷ refuses (state (mergedPage .table) (page 3 0x2a ++ (blank ++ page 9 0x60001))) (PUNFIX 0 0) 13
     ∷ refuses noLeaf (WRITE 7 0x50000 0 2 2 3 0x2b) 10
     ∷ refuses (state (0xe0007 ∷ 0x1000 ∷ 0x130000 ∷ 0 ∷ []) (blank ++ blank)) (CENSUS 7) 12
-    ∷ refuses (state (0x130000 ∷ 0 ∷ 0xe0007 ∷ 0 ∷ []) (blank ++ blank)) (CENSUS 7) 5
+    ∷ finds (state (0x130000 ∷ 0 ∷ 0xe0007 ∷ 0 ∷ []) (blank ++ blank)) (CENSUS 7) 1
     -- the refusals that are left, each where a later check fails too, if there is one that can
     ∷ refuses halfEntry (RMPUPDATE 7 1 1 1 4) 1
     ∷ refuses owned (RMPUPDATE 7 0x1000 0 0 0) 3
     ∷ refuses owned (RMPUPDATE 0 0x1000 0 0 0) 4
-    ∷ refuses badEntry (RMPUPDATE 0 0 0 0 0) 5
+    ∷ finds badEntry (RMPUPDATE 0 0 0 0 0) 1
     ∷ refuses halfEntry (PVALIDATE 0 1 1 0) 1
     ∷ refuses owned (PVALIDATE 0 0x50000 0x1000 2) 3
     ∷ refuses owned (PVALIDATE 7 0x50000 0x1000 2) 4
-    ∷ refuses badEntry (PVALIDATE 7 0x50000 0 2) 5
+    ∷ finds badEntry (PVALIDATE 7 0x50000 0 2) 1
     ∷ refuses unopened (PVALIDATE 9 0x50000 0 1) 6
     ∷ refuses unopened (PVALIDATE 7 0x60000 0 2) 8
     ∷ refuses halfEntry (PFIX 7 1 0) 1
     ∷ refuses owned (PFIX 7 0 1) 2
     ∷ refuses owned (PFIX 7 0 0x1000) 3
-    ∷ refuses badEntry (PFIX 0 0 0) 5
+    ∷ finds badEntry (PFIX 0 0 0) 1
     ∷ refuses fixedPage (PFIX 0 0 0x1000) 6
     ∷ refuses (state (0x20007 ∷ 0x50000 ∷ 0 ∷ 0 ∷ []) (blank ++ blank)) (PFIX 0 0 0x1000) 6
     ∷ refuses fixedPage (PFIX 0 0 0x2000) 10
@@ -177,7 +181,7 @@ examples =
     ∷ refuses owned (PMERGE 7 0 1) 2
     ∷ refuses owned (PMERGE 7 0 0x1000) 3
     ∷ refuses badEntry (PMERGE 0 0 0x1000) 4
-    ∷ refuses badEntry (PMERGE 0 0 0) 5
+    ∷ finds badEntry (PMERGE 0 0 0) 1
     ∷ refuses unfixedPage (PMERGE 0 0 0x2000) 6
     ∷ refuses leafTaken (PMERGE 0 0 0x1000) 11
     ∷ refuses (state (0x60007 ∷ 0x50000 ∷ 0x20009 ∷ 0x60000 ∷ []) (blank ++ blank)) (PMERGE 0 0 0x1000) 11
@@ -186,13 +190,13 @@ examples =
     ∷ refuses halfEntry (PUNMERGE 7 1 0 0) 1
     ∷ refuses owned (PUNMERGE 7 0 0x1000 9) 3
     ∷ refuses badEntry (PUNMERGE 0 0 0x1000 9) 4
-    ∷ refuses badEntry (PUNMERGE 0 0 0 9) 5
+    ∷ finds badEntry (PUNMERGE 0 0 0 9) 1
     ∷ refuses apart (PUNMERGE 0 0 0x1000 9) 6
     ∷ refuses unfixedPage (PUNMERGE 0 0 0x2000 7) 11
     ∷ refuses noLeaf (PUNMERGE 0 0 0x1000 7) 12
     ∷ refuses halfEntry (PUNFIX 7 1) 1
     ∷ refuses badEntry (PUNFIX 0 0x1000) 4
-    ∷ refuses badEntry (PUNFIX 0 0) 5
+    ∷ finds badEntry (PUNFIX 0 0) 1
     ∷ refuses apart (PUNFIX 0 0x2000) 6
     ∷ refuses owned (PUNFIX 0 0) 11
     ∷ refuses noLeaf (PUNFIX 0 0) 12
@@ -204,7 +208,7 @@ examples =
     ∷ refuses owned (WRITE 0 1 0 2 2 3 0x2b) 2
     ∷ refuses owned (WRITE 0 0x50000 0x1000 2 2 3 0x2b) 3
     ∷ refuses owned (WRITE 7 0x50000 0x1000 1 2 3 0x2b) 4
-    ∷ refuses badEntry (WRITE 7 0x50000 0 2 2 3 0x2b) 5
+    ∷ finds badEntry (WRITE 7 0x50000 0 2 2 3 0x2b) 1
     ∷ refuses unopened (WRITE 9 0x60000 0 2 2 3 0x2b) 7
     ∷ refuses unopened (WRITE 7 0x60000 0 2 2 3 0x2b) 8
     ∷ refuses unopened (WRITE 7 0x50000 0 2 2 3 0x2b) 9

@@ -1,4 +1,5 @@
--- Worked examples of the rules: of each call by itself, of whole pages, and the worked script of 01.
+-- Worked examples of the rules: of each call by itself, of whole pages, of bad entries, and the worked script of 01.
 pub mod Examples
 pub mod Pages
+pub mod Reasons
 pub mod Script

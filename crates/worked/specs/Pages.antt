@@ -4,34 +4,38 @@ use mathlib.Core.List.{List, [], _∷_, _++_}
 use Prim.Native.Nat.{ℕ}
 use lib.ListN.{replicate}
 use Rattle.rules.specs.Answers.{refused, done}
+use Rattle.rules.specs.Refusals.{alone, BAD-ENTRY}
 use Rattle.rules.specs.State.{State, state}
 use Rattle.requests.specs.Requests.{Request, PAGE-READ, PAGE-WRITE, PAGE-CHECK, tells, hands, Response, response}
 use Rattle.worked.specs.Examples.{page, mergedPage, halfEntry, badEntry}
 
-pub record PageExample : Type 0 where
+pub record RequestExample : Type 0 where
   pub before : State
   pub request : Request
   pub gives : Response
 
-abbrev pub gives : State → Request → Response → PageExample
+abbrev pub gives : State → Request → Response → RequestExample
 gives before request r = record { before = before; request = request; gives = r }
 
--- a page that is handed back, the check that it passes, and a refusal
-abbrev pub reads : State → Request → List ℕ → PageExample
+-- a page that is handed back, the check that it passes, a refusal, and 5 with the reason
+abbrev pub reads : State → Request → List ℕ → RequestExample
 reads before request part = gives before request (response (hands part) before)
 
-abbrev pub passes : State → Request → PageExample
+abbrev pub passes : State → Request → RequestExample
 passes before request = gives before request (response (tells done) before)
 
-abbrev pub stops : State → Request → ℕ → PageExample
-stops before request number = gives before request (response (tells (refused number)) before)
+abbrev pub stops : State → Request → ℕ → RequestExample
+stops before request number = gives before request (response (tells (refused (alone number))) before)
+
+abbrev pub finds : State → Request → ℕ → RequestExample
+finds before request reason = gives before request (response (tells (refused (BAD-ENTRY reason))) before)
 
 -- a SHARED frame, guest 7's page at 50000, a LEAF, and a frame that the table does not cover
 unfoldable pub disk : State
 disk =
     state (0 ∷ 0 ∷ 0x60007 ∷ 0x50000 ∷ 0x30000 ∷ 0 ∷ []) (page 3 0x2a ++ (page 3 0x2b ++ (page 9 0x60001 ++ page 5 0x2c)))
 
-unfoldable pub pageExamples : List PageExample
+unfoldable pub pageExamples : List RequestExample
 pageExamples =
     -- the host and a guest
     reads disk (PAGE-READ 0 0 0) (page 3 0x2a)
@@ -67,8 +71,8 @@ pageExamples =
     ∷ stops disk (PAGE-CHECK 0 0 0x4000) 4
     ∷ stops disk (PAGE-WRITE 0 0 0x4000 (page 4 0x2d)) 4
     ∷ reads badEntry (PAGE-READ 0 0 0) []
-    ∷ stops badEntry (PAGE-CHECK 0 0 0) 5
-    ∷ stops badEntry (PAGE-WRITE 0 0 0 (page 4 0x2d)) 5
+    ∷ finds badEntry (PAGE-CHECK 0 0 0) 1
+    ∷ finds badEntry (PAGE-WRITE 0 0 0 (page 4 0x2d)) 1
     -- a run of another length: 2, before 4 and 6
     ∷ stops disk (PAGE-WRITE 0 0 0 []) 2
     ∷ stops disk (PAGE-WRITE 0 0 0 (replicate 511 0)) 2

@@ -5,6 +5,7 @@ use lib.ListN.{replicate}
 use Rattle.rules.specs.Answers.{Told, refused, done, none, closed, opened, word, count}
 use Rattle.rules.specs.Calls.{Call, RMPUPDATE, PVALIDATE, PFIX, PMERGE, PUNMERGE, PUNFIX, READ, WRITE, CENSUS}
 use Rattle.rules.specs.History.{Event, opens, closes, reads, writes, noEvent}
+use Rattle.rules.specs.Refusals.{alone}
 use Rattle.rules.specs.State.{State, emptyTable}
 
 -- "an empty table with N = 8, M = 10 and zeroed memory"
@@ -47,16 +48,16 @@ output =
     ∷ done
     ∷ done
     ∷ word 0x2a
-    ∷ refused 6
-    ∷ refused 10
-    ∷ refused 17
+    ∷ refused (alone 6)
+    ∷ refused (alone 10)
+    ∷ refused (alone 17)
     ∷ done
     ∷ done
     ∷ done
     ∷ word 0x2a
     ∷ count 0x1
     ∷ closed 0x7 0x50000
-    ∷ refused 9
+    ∷ refused (alone 9)
     ∷ []
 
 -- openings, closings, and accepted private or mergeable reads and writes: guests, addresses, frame or word index, and value

@@ -11,6 +11,9 @@ enum-known-answer c = search needs
 number-requires : tie.Need-number-requires
 number-requires c κs = search needs
 
+reason-requires : tie.Need-reason-requires
+reason-requires c κs = search needs
+
 numbers-requires : tie.Need-numbers-requires
 numbers-requires c κs = search needs
 
@@ -58,7 +61,14 @@ numbers-requires-8 c κs = search needs
 
 returns : tie.Need-returns
 unfolding flat
-returns c = rw (c .before .before .before .answer .given .1, ← c .before .number .ensures, ← c .numbers .ensures)
+returns c =
+    let at-reason = c .before in let at-number = at-reason .before in
+    rw (
+      at-number .before .before .answer .given .1,
+      ← at-number .number .ensures,
+      ← at-reason .reason .ensures,
+      ← c .numbers .ensures,
+    )
 
 returns-2 : tie.Need-returns-2
 unfolding flat
@@ -94,6 +104,7 @@ flatten-spec =
     (tie.spec
     enum-known-answer
     number-requires
+    reason-requires
     numbers-requires
     enum-told
     numbers-requires-2

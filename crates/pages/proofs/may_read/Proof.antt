@@ -20,6 +20,15 @@ returns c = λ v. rw (access-parts, ← c .before .before .before .begun .ensure
 enum-told : tie.Need-enum-told
 enum-told c = search needs
 
+frame-of-requires : tie.Need-frame-of-requires
+frame-of-requires c κs = search needs
+
+read-requires : tie.Need-read-requires
+read-requires c κs = search needs
+
+covers-requires : tie.Need-covers-requires
+covers-requires c κs = search needs
+
 reach-requires : tie.Need-reach-requires
 reach-requires c κs = search needs
 
@@ -29,10 +38,12 @@ allowed-requires c κs = search needs
 returns-2 : tie.Need-returns-2
 unfolding sharedAccess past
 returns-2 c =
-    let at-reach = c .before in let at-open = at-reach .before in let at-begun = at-open .before .before in
+    let at-reach = c .before in let at-covers = at-reach .before in let at-read = at-covers .before in let at-frame = at-read .before in
+    let at-open = at-frame .before in let at-begun = at-open .before .before in
     let parts =
-    access-checked _ _ _ _ _ _ _ _ _ (at-begun .begun .result) (c .allowed .result) (at-reach .reach .result)
-    (at-begun .begun .ensures) (at-reach .reach .ensures) (c .allowed .ensures) in
+    access-checked _ _ _ _ _ _ _ _ _ (at-begun .begun .result) (c .allowed .result) (at-reach .reach .result) _ (at-read .read .result)
+    (at-covers .covers .result) (at-begun .begun .ensures) (at-frame .frame-of .ensures) (at-read .read .ensures)
+    (at-covers .covers .ensures) (at-reach .reach .ensures) (c .allowed .ensures) in
     λ v. rw (parts v, at-open .enum-told .given .1)
 
 pub may-read-spec : {M : Type 1} → statement M
@@ -43,6 +54,9 @@ may-read-spec =
     enum-known-begun
     returns
     enum-told
+    frame-of-requires
+    read-requires
+    covers-requires
     reach-requires
     allowed-requires
     returns-2)

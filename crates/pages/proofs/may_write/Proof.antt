@@ -62,6 +62,15 @@ returns-2 c =
 enum-told-2 : tie.Need-enum-told-2
 enum-told-2 c = search needs
 
+frame-of-requires : tie.Need-frame-of-requires
+frame-of-requires c κs = search needs
+
+read-requires : tie.Need-read-requires
+read-requires c κs = search needs
+
+covers-requires : tie.Need-covers-requires
+covers-requires c κs = search needs
+
 reach-requires : tie.Need-reach-requires
 reach-requires c κs = search needs
 
@@ -71,15 +80,17 @@ allowed-requires c κs = search needs
 returns-3 : tie.Need-returns-3
 unfolding sharedAccess past
 returns-3 c =
-    let at-reach = c .before in let at-begun = at-reach .before .before .before in let at-open = at-begun .before in
+    let at-reach = c .before in let at-covers = at-reach .before in let at-read = at-covers .before in let at-frame = at-read .before in
+    let at-begun = at-frame .before .before .before in let at-open = at-begun .before in
     let parts =
-    access-checked _ _ _ _ _ _ _ _ _ (at-begun .begun .result) (c .allowed .result) (at-reach .reach .result)
-    (at-begun .begun .ensures) (at-reach .reach .ensures) (c .allowed .ensures) in
+    access-checked _ _ _ _ _ _ _ _ _ (at-begun .begun .result) (c .allowed .result) (at-reach .reach .result) _ (at-read .read .result)
+    (at-covers .covers .result) (at-begun .begun .ensures) (at-frame .frame-of .ensures) (at-read .read .ensures)
+    (at-covers .covers .ensures) (at-reach .reach .ensures) (c .allowed .ensures) in
     λ v. rw (
       ← given-is (at-open .before .before) _,
       at-open .enum-told .given .1,
       parts v,
-      at-reach .before .enum-told2 .given .1,
+      at-frame .before .enum-told2 .given .1,
     )
 
 pub may-write-spec : {M : Type 1} → statement M
@@ -96,6 +107,9 @@ may-write-spec =
     enum-known-begun
     returns-2
     enum-told-2
+    frame-of-requires
+    read-requires
+    covers-requires
     reach-requires
     allowed-requires
     returns-3)

@@ -28,6 +28,15 @@ returns c = rw (access-parts, ← c .before .before .before .begun .ensures, c .
 enum-told : tie.Need-enum-told
 enum-told c = search needs
 
+frame-of-requires : tie.Need-frame-of-requires
+frame-of-requires c κs = search needs
+
+read-requires : tie.Need-read-requires
+read-requires c κs = search needs
+
+covers-requires : tie.Need-covers-requires
+covers-requires c κs = search needs
+
 reach-requires : tie.Need-reach-requires
 reach-requires c κs = search needs
 
@@ -43,25 +52,28 @@ same-length-2 c = search needs
 -- where the frame was looked at: the access is what the two gates make of it
 checked :
     (c : tie.After-allowed)
-    → let a = c .before .before .before .before .before .before .before .before .before .args in
+    → let at-begun = c .before .before .before .before .before .before .before .before in
+    let a = at-begun .before .before .before .before .args in
     (v : Verdict)
     → access (state (now (a .table)) (now (a .memory))) true (a .caller) (a .gpa) (a .hpa) (a .gtype) (a .ntype) (a .index) v
-    ≡ past (c .before .before .before .before .before .begun .result) (past (c .allowed .result) v)
+    ≡ past (at-begun .begun .result) (past (c .allowed .result) v)
 checked c =
-    let at-reach = c .before .before in let at-begun = at-reach .before .before .before in
-    access-checked _ _ _ _ _ _ _ _ _ _ _ _ (at-begun .begun .ensures) (at-reach .reach .ensures) (c .allowed .ensures)
+    let at-reach = c .before .before in let at-covers = at-reach .before in let at-read = at-covers .before in
+    let at-frame = at-read .before in let at-begun = at-frame .before .before .before in
+    access-checked _ _ _ _ _ _ _ _ _ _ _ _ _ _ _ (at-begun .begun .ensures) (at-frame .frame-of .ensures) (at-read .read .ensures)
+    (at-covers .covers .ensures) (at-reach .reach .ensures) (c .allowed .ensures)
 
 returns-2 : tie.Need-returns-2
 unfolding write settle past withWord
 returns-2 c =
     let at-allowed = c .before .before .before in
-    rw (checked at-allowed, at-allowed .before .before .before .enum-told .given .1, c .before .allowed2 .given .1)
+    rw (checked at-allowed, at-allowed .before .before .before .before .before .before .enum-told .given .1, c .before .allowed2 .given .1)
 
 enum-told-2 : tie.Need-enum-told-2
 enum-told-2 c = search needs
 
-frame-of-requires : tie.Need-frame-of-requires
-frame-of-requires c κs = search needs
+frame-of-requires-2 : tie.Need-frame-of-requires-2
+frame-of-requires-2 c κs = search needs
 
 put-word-requires : tie.Need-put-word-requires
 put-word-requires c κs = search needs
@@ -76,9 +88,9 @@ returns-3 c =
     let at-allowed = at-open .before .before in
     rw (
       checked at-allowed,
-      at-allowed .before .before .before .enum-told .given .1,
+      at-allowed .before .before .before .before .before .before .enum-told .given .1,
       at-open .enum-told2 .given .1,
-      ← at-frame-of .frame-of .ensures,
+      ← at-frame-of .frame-of2 .ensures,
       ← at-put-word .put-word .ensures,
     )
 
@@ -91,13 +103,16 @@ write-spec =
     same-length
     returns
     enum-told
+    frame-of-requires
+    read-requires
+    covers-requires
     reach-requires
     allowed-requires
     enum-known-allowed
     same-length-2
     returns-2
     enum-told-2
-    frame-of-requires
+    frame-of-requires-2
     put-word-requires
     same-length-3
     returns-3)

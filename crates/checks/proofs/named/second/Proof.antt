@@ -1,6 +1,7 @@
 -- `checks::named::second` meets its contract: each return is a case of the definition.
 -- Assumes nothing.
 use borrow.Author.Needs.{needs}
+use Rattle.entries.specs.Entry.{reasonOf}
 use Rattle.checks.specs.Named.{andNamed}
 use Rattle.checks.proofs.named.second.Statement.{statement}
 use Rattle.checks.proofs.named.second.Tie as tie
@@ -21,24 +22,34 @@ frame-of-requires c κs = search needs
 read-requires : tie.Need-read-requires
 read-requires c κs = search needs
 
-enum-known-two : tie.Need-enum-known-two
-enum-known-two c = search needs
+enum-known-here : tie.Need-enum-known-here
+enum-known-here c = search needs
 
 enum-told : tie.Need-enum-told
 enum-told c = search needs
 
+reason-requires : tie.Need-reason-requires
+reason-requires c κs = search needs
+
 returns-2 : tie.Need-returns-2
-unfolding andNamed
+unfolding andNamed reasonOf
 returns-2 c =
-    let at-read = c .before .before in let at-frame-of = at-read .before in let at-one = at-frame-of .before .before in
-    rw (at-one .first2 .given .1, ← at-frame-of .frame-of .ensures, ← at-read .read .ensures, c .enum-told .given .1)
+    let at-here = c .before in let at-read = at-here .before .before in let at-frame-of = at-read .before in
+    let at-one = at-frame-of .before .before in
+    rw (
+      at-one .first2 .given .1,
+      ← at-frame-of .frame-of .ensures,
+      ← at-read .read .ensures,
+      c .reason .ensures,
+      at-here .enum-told .given .1,
+    )
 
 returns-3 : tie.Need-returns-3
 unfolding andNamed
 returns-3 c =
-    let at-two = c .before in let at-read = at-two .before .before in let at-frame-of = at-read .before in
+    let at-here = c .before in let at-read = at-here .before .before in let at-frame-of = at-read .before in
     let at-one = at-frame-of .before .before in
-    rw (at-one .first2 .given .1, ← at-frame-of .frame-of .ensures, ← at-read .read .ensures, at-two .two .given .1)
+    rw (at-one .first2 .given .1, ← at-frame-of .frame-of .ensures, ← at-read .read .ensures, at-here .here .given .1)
 
 pub second-spec : {M : Type 1} → statement M
 second-spec =
@@ -49,7 +60,8 @@ second-spec =
     enum-known-first-2
     frame-of-requires
     read-requires
-    enum-known-two
+    enum-known-here
     enum-told
+    reason-requires
     returns-2
     returns-3)

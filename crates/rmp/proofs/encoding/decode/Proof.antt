@@ -1,25 +1,36 @@
--- `rmp::encoding::decode` meets its contract: each branch is a case of the definition, and the fields and their test are what
--- the two calls promise.
+-- `rmp::encoding::decode` meets its contract: the entry is good where all rules hold, and else bad with the first that is broken.
 -- Assumes nothing.
+use mathlib.Core.Path.{sym}
+use native.Mathlib.Omega.{arith}
 use borrow.Author.Needs.{needs}
-use Rattle.words.specs.Choice.{pick, _and_}
-use Rattle.entries.specs.Entry.{decoded}
+use Rattle.words.specs.Choice.{_and_}
+use Rattle.entries.specs.Entry.{entry, fields, decoded}
+use Rattle.rmp.proofs.ByRules.{all-hold, one-broken}
 use Rattle.rmp.proofs.encoding.decode.Statement.{statement}
 use Rattle.rmp.proofs.encoding.decode.Tie as tie
 
 fields-requires : tie.Need-fields-requires
 fields-requires c κs = search needs
 
-well-formed-requires : tie.Need-well-formed-requires
-well-formed-requires c κs = search needs
+fields-fit-requires : tie.Need-fields-fit-requires
+unfolding fields entry
+fields-fit-requires c κs = rw (c .fields .ensures) (omega arith)
 
 returns : tie.Need-returns
-unfolding decoded pick _and_
-returns c = rw (← c .before .before .fields .ensures, ← c .before .well-formed .ensures, c .if1 .taken)
+unfolding decoded _and_
+returns c =
+    let fits = c .before .before .before .fields-fit .ensures in
+    rw (← c .before .before .before .before .fields .ensures) (sym (all-hold _ _ _ (rw (fits .0, fits .1 .1) at (c .if1 .taken))))
+
+first-broken-requires : tie.Need-first-broken-requires
+first-broken-requires c κs = search needs
 
 returns-2 : tie.Need-returns-2
-unfolding decoded pick _and_
-returns-2 c = rw (← c .before .before .fields .ensures, ← c .before .well-formed .ensures, c .if1 .left)
+unfolding decoded _and_
+returns-2 c =
+    let fits = c .before .before .before .before .fields-fit .ensures in
+    rw (← c .before .before .before .before .before .fields .ensures, c .first-broken .ensures, fits .0, fits .1 .0)
+    (sym (one-broken _ _ _ (rw (fits .0, fits .1 .1) at (c .before .if1 .left))))
 
 pub decode-spec : {M : Type 1} → statement M
-decode-spec = tie.close (tie.spec fields-requires well-formed-requires returns returns-2)
+decode-spec = tie.close (tie.spec fields-requires fields-fit-requires returns first-broken-requires returns-2)
