@@ -70,7 +70,7 @@ pub fn census(table: &[u64], memory: &[u64], asid: u64) -> Answer {
         let entries = entries(table);
         let mut count = 0;
         for &words in entries {
-            let page = Entry::decode(words, entries.len()).ok_or(Refusal::BadEntry)?;
+            let page = Entry::decode(words, entries.len()).map_err(Refusal::BadEntry)?;
             let holds = if page.fixed {
                 place_in_leaf(table, memory, page, asid)?.is_some()
             } else {

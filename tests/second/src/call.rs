@@ -3,35 +3,70 @@
 
 use std::fmt;
 
+use crate::layout::Reason;
 use crate::{access, pages, rules};
 
-/// The refusals with their numbers.
+/// The refusals, in the order of their numbers.
 #[derive(Clone, Copy, PartialEq, Eq, Debug)]
-#[repr(u8)]
 pub enum Refusal {
-    Geometry = 1,
-    Argument = 2,
-    Caller = 3,
-    Outside = 4,
-    BadEntry = 5,
-    Type = 6,
-    Owner = 7,
-    Address = 8,
-    NotValidated = 9,
-    Fixed = 10,
-    NotFixed = 11,
-    BrokenLeaf = 12,
-    NoPlace = 13,
-    PlaceTaken = 14,
-    LeafInUse = 15,
-    Contents = 16,
-    StillShared = 17,
+    Geometry,
+    Argument,
+    Caller,
+    Outside,
+    BadEntry(Reason),
+    Type,
+    Owner,
+    Address,
+    NotValidated,
+    Fixed,
+    NotFixed,
+    BrokenLeaf,
+    NoPlace,
+    PlaceTaken,
+    LeafInUse,
+    Contents,
+    StillShared,
+}
+
+impl Refusal {
+    pub fn number(self) -> u8 {
+        match self {
+            Self::Geometry => 1,
+            Self::Argument => 2,
+            Self::Caller => 3,
+            Self::Outside => 4,
+            Self::BadEntry(_) => 5,
+            Self::Type => 6,
+            Self::Owner => 7,
+            Self::Address => 8,
+            Self::NotValidated => 9,
+            Self::Fixed => 10,
+            Self::NotFixed => 11,
+            Self::BrokenLeaf => 12,
+            Self::NoPlace => 13,
+            Self::PlaceTaken => 14,
+            Self::LeafInUse => 15,
+            Self::Contents => 16,
+            Self::StillShared => 17,
+        }
+    }
+
+    /// The number of the rule that a bad entry breaks; zero for every other
+    /// refusal.
+    pub fn reason(self) -> u8 {
+        match self {
+            Self::BadEntry(reason) => reason as u8,
+            _ => 0,
+        }
+    }
 }
 
 /// What a call answers.
 #[derive(Clone, Copy, PartialEq, Eq, Debug)]
+#[rustfmt::skip]
 pub enum Answer {
-    Refused(u8),
+    /// The reason is a `Reason` with refusal 5, else zero.
+    Refused { number: u8, reason: u8 },
     Done,
     None,
     Closed { asid: u64, gpa: u64 },
@@ -43,7 +78,10 @@ pub enum Answer {
 
 impl From<Refusal> for Answer {
     fn from(refusal: Refusal) -> Self {
-        Self::Refused(refusal as u8)
+        Self::Refused {
+            number: refusal.number(),
+            reason: refusal.reason(),
+        }
     }
 }
 
@@ -51,7 +89,7 @@ impl From<Refusal> for Answer {
 impl fmt::Display for Answer {
     fn fmt(&self, f: &mut fmt::Formatter<'_>) -> fmt::Result {
         match self {
-            Self::Refused(number) => write!(f, "no {number}"),
+            Self::Refused { number, .. } => write!(f, "no {number}"),
             Self::Done => write!(f, "ok"),
             Self::None => write!(f, "ok none"),
             Self::Closed { asid, gpa } => write!(f, "ok closed {asid:x} {gpa:x}"),
@@ -179,6 +217,224 @@ impl Request {
                 Reply::Answer(pages::page_write(table, memory, caller, gpa, hpa, words)),
             Self::PageCheck { caller, gpa, hpa } =>
                 Reply::Answer(pages::page_check(table, memory, caller, gpa, hpa)),
+        }
+    }
+}
+
+#[cfg(test)]
+mod tests {
+    use super::*;
+    use crate::layout::FRAME_WORDS;
+    use crate::script::parse;
+
+    /// N = 8 and M = 10.
+    #[derive(Clone, PartialEq)]
+    struct Machine {
+        table: [u64; 16],
+        memory: [u64; 10 * FRAME_WORDS],
+    }
+
+    impl Machine {
+        /// Every entry is good: guest 7's fixed page in frame 1 with the leaf
+        /// in frame 3, validated pages of guests 9 and 7 in frames 2 and 5, a
+        /// leaf without a page in frame 6, and a page not validated in frame 7.
+        #[rustfmt::skip]
+        fn new() -> Self {
+            let mut machine = Self {
+                table: [
+                    0, 0, 0xe0007, 0x3000, 0x60009, 0x60000, 0x30000, 0,
+                    0, 0, 0x60007, 0x51000, 0x30000, 0, 0x20007, 0x52000,
+                ],
+                memory: [0; 10 * FRAME_WORDS],
+            };
+            machine.memory[FRAME_WORDS] = 1; // frame 1 is unlike frame 2
+            machine.memory[3 * FRAME_WORDS + 7] = 0x50001;
+            machine.memory[3 * FRAME_WORDS + 8] = 0x50003; // misshapen
+            machine
+        }
+
+        /// With these entries in place of those of their frames.
+        fn with<const K: usize>(entries: [(usize, [u64; 2]); K]) -> Self {
+            let mut machine = Self::new();
+            for (frame, words) in entries {
+                machine.table[2 * frame..2 * frame + 2].copy_from_slice(&words);
+            }
+            machine
+        }
+
+        fn make(&mut self, line: &str) -> Answer {
+            let call = parse(line.as_bytes()).unwrap();
+            call.make(&mut self.table, &mut self.memory)
+        }
+
+        /// The call is refused with this number and reason, and changes nothing.
+        fn refuses(&mut self, line: &str, number: u8, reason: u8) {
+            let before = self.clone();
+            assert_eq!(
+                self.make(line),
+                Answer::Refused { number, reason },
+                "{line} on {:x?}",
+                self.table
+            );
+            assert!(*self == before, "{line}");
+        }
+    }
+
+    /// For each reason an entry that breaks its rule alone.
+    const BAD: [([u64; 2], u8); 4] = [
+        ([0x100000, 0], 1),
+        ([0x10200, 0x1000], 2),
+        ([0xa0007, 0x3000], 3),
+        ([0xe0007, 0x8000], 4),
+    ];
+
+    /// Every two of them that differ, in both orders.
+    fn two_bad() -> impl Iterator<Item = ([u64; 2], u8, [u64; 2], u8)> {
+        BAD.into_iter().flat_map(|(first, reason1)| {
+            BAD.into_iter()
+                .filter(move |&(second, _)| second != first)
+                .map(move |(second, reason2)| (first, reason1, second, reason2))
+        })
+    }
+
+    #[test]
+    fn each_call_tells_the_reason_of_a_bad_entry() {
+        for (bad, reason) in BAD {
+            for (line, frame) in [
+                ("U 0 1000 50000 7 2", 1),
+                ("U 0 3000 0 0 0", 3),
+                ("V 7 50000 1000 2", 1),
+                ("V 9 60000 2000 1", 2),
+                ("F 0 5000 6000", 5),
+                ("F 0 5000 6000", 6),
+                ("M 0 1000 2000", 1),
+                ("M 0 1000 2000", 2),
+                ("D 0 1000 4000 9", 1),
+                ("D 0 1000 4000 9", 4),
+                ("X 0 1000", 1),
+                ("R 7 50000 1000 2 2 3", 1),
+                ("R 0 0 4000 0 0 3", 4),
+                ("W 7 51000 5000 2 2 3 2a", 5),
+                ("W 9 0 4000 0 0 3 2a", 4),
+                ("C 7", 0),
+                ("C 7", 1),
+                ("C 1ff", 7),
+            ] {
+                Machine::with([(frame, bad)]).refuses(line, 5, reason);
+            }
+        }
+    }
+
+    #[test]
+    fn of_two_bad_frames_the_first_named_gives_the_reason() {
+        for (low, reason1, high, reason2) in two_bad() {
+            let mut machine = Machine::with([(1, low), (2, high)]);
+            for (line, reason) in [
+                ("F 0 1000 2000", reason1),
+                ("F 0 2000 1000", reason2),
+                ("M 0 1000 2000", reason1),
+                ("M 0 2000 1000", reason2),
+                ("D 0 1000 2000 9", reason1),
+                ("D 0 2000 1000 9", reason2),
+            ] {
+                machine.refuses(line, 5, reason);
+            }
+        }
+    }
+
+    #[test]
+    fn a_bad_second_frame_comes_before_6_of_the_first() {
+        for (bad, reason) in BAD {
+            let mut machine = Machine::with([(2, bad)]);
+            for line in ["F 0 0 2000", "M 0 0 2000", "D 0 0 2000 9"] {
+                machine.refuses(line, 5, reason);
+            }
+        }
+    }
+
+    #[test]
+    fn of_two_bad_frames_the_census_meets_the_lower_first() {
+        for (low, reason, high, _) in two_bad() {
+            Machine::with([(2, low), (5, high)]).refuses("C 7", 5, reason);
+            Machine::with([(0, low), (7, high)]).refuses("C 9", 5, reason);
+        }
+    }
+
+    #[test]
+    fn a_leaf_that_is_not_named_is_12_without_a_reason() {
+        for (bad, reason) in BAD {
+            let mut machine = Machine::with([(3, bad)]);
+            for line in [
+                "M 0 1000 2000",
+                "D 0 1000 4000 9",
+                "X 0 1000",
+                "R 7 50000 1000 2 2 3",
+                "C 7",
+            ] {
+                machine.refuses(line, 12, 0);
+            }
+            machine.refuses("W 7 50000 1000 2 2 3 2a", 10, 0);
+            machine.refuses("F 0 5000 3000", 5, reason); // here it is named
+        }
+    }
+
+    #[test]
+    fn the_census_meets_a_bad_leaf_by_its_page_or_by_its_frame() {
+        for (bad, reason) in BAD {
+            // The fixed page in frame 1 comes before the leaf in frame 3, and
+            // before another bad frame.
+            Machine::with([(3, bad)]).refuses("C 9", 12, 0);
+            Machine::with([(3, [0, 0]), (2, bad)]).refuses("C 9", 12, 0);
+            // The leaf in frame 0 comes before the fixed page in frame 1.
+            Machine::with([(0, bad), (1, [0xe0007, 0])]).refuses("C 9", 5, reason);
+        }
+    }
+
+    #[test]
+    fn a_bad_entry_uses_no_leaf() {
+        let mut machine = Machine::with([(4, [0xa0007, 0x6000])]);
+        assert_eq!(machine.make("F 0 5000 6000"), Answer::Done);
+        let mut machine = Machine::with([(4, [0xe0007, 0x6000])]);
+        machine.refuses("F 0 5000 6000", 15, 0);
+    }
+
+    #[test]
+    fn every_other_refusal_has_no_reason() {
+        let mut machine = Machine::new();
+        for (line, number) in [
+            ("C 0", 2),
+            ("X 7 1000", 3),
+            ("X 0 8000", 4),
+            ("X 0 0", 6),
+            ("V 9 51000 5000 2", 7),
+            ("V 7 50000 5000 2", 8),
+            ("F 0 7000 6000", 9),
+            ("U 0 1000 50000 7 2", 10),
+            ("X 0 5000", 11),
+            ("D 0 1000 4000 8", 12),
+            ("D 0 1000 4000 9", 13),
+            ("M 0 1000 5000", 14),
+            ("F 0 5000 3000", 15),
+            ("M 0 1000 2000", 16),
+            ("X 0 1000", 17),
+        ] {
+            machine.refuses(line, number, 0);
+        }
+        let Machine { table, memory } = &mut machine;
+        let answer = Call::Census { asid: 7 }.make(&mut table[..15], memory);
+        let [number, reason] = [1, 0];
+        assert_eq!(answer, Answer::Refused { number, reason });
+    }
+
+    #[test]
+    fn checks_before_5_have_no_reason_on_a_bad_entry() {
+        for (bad, reason) in BAD {
+            let mut machine = Machine::with([(1, bad)]);
+            machine.refuses("R 7 50000 1000 2 2 200", 2, 0);
+            machine.refuses("X 7 1000", 3, 0);
+            machine.refuses("F 0 1000 8000", 4, 0);
+            machine.refuses("R 7 50000 1000 1 2 3", 6, 0);
+            machine.refuses("F 0 1000 0", 5, reason); // before 6 of the leaf
         }
     }
 }

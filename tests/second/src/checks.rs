@@ -52,7 +52,7 @@ pub fn entries(table: &[u64]) -> &[[u64; ENTRY_WORDS]] {
 #[inline]
 pub fn entry(table: &[u64], frame: usize) -> Result<Entry, Refusal> {
     let entries = entries(table);
-    Entry::decode(entries[frame], entries.len()).ok_or(Refusal::BadEntry)
+    Entry::decode(entries[frame], entries.len()).map_err(Refusal::BadEntry)
 }
 
 #[inline]
@@ -94,6 +94,6 @@ pub fn place_in_leaf(
 pub fn leaf_in_use(table: &[u64], leaf: u64) -> bool {
     let entries = entries(table);
     entries.iter().any(|&[head, gpa]| {
-        gpa == leaf && Entry::decode([head, gpa], entries.len()).is_some_and(|entry| entry.fixed)
+        gpa == leaf && Entry::decode([head, gpa], entries.len()).is_ok_and(|entry| entry.fixed)
     })
 }

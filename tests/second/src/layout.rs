@@ -63,6 +63,30 @@ impl Kind {
             _ => None,
         }
     }
+
+    /// The type in the low two bits.
+    #[inline]
+    fn from_low_bits(bits: u64) -> Self {
+        match bits & 3 {
+            0 => Self::Shared,
+            1 => Self::Private,
+            2 => Self::Mergeable,
+            _ => Self::Leaf,
+        }
+    }
+}
+
+/// The first rule that an entry breaks, with its number (document 02, Q-2).
+#[derive(Clone, Copy, PartialEq, Eq, Debug)]
+#[repr(u8)]
+pub enum Reason {
+    SpareBits = 1,
+    /// The ASID is not one for the type.
+    Asid = 2,
+    /// The flags are not ones for the type.
+    Flags = 3,
+    /// Word 1 is not one for the type and flags.
+    Address = 4,
 }
 
 /// A well formed entry of the table.
@@ -92,20 +116,31 @@ impl Entry {
         }
     }
 
-    /// The entry in these two words of a table of `n` frames, if well formed.
+    /// The entry in these two words of a table of `n` frames if well formed,
+    /// else the first rule that it breaks.
     #[inline]
-    pub fn decode([head, gpa]: [u64; ENTRY_WORDS], n: usize) -> Option<Self> {
+    pub fn decode([head, gpa]: [u64; ENTRY_WORDS], n: usize) -> Result<Self, Reason> {
         if head & UNUSED_BITS != 0 {
-            return None;
+            return Err(Reason::SpareBits);
         }
-        let entry = Self {
+        let entry = Self::from_words([head, gpa]);
+        if entry.is_well_formed(n) {
+            Ok(entry)
+        } else {
+            Err(Self::first_broken_rule(head))
+        }
+    }
+
+    /// The fields of an entry, well formed or not.
+    #[inline]
+    fn from_words([head, gpa]: [u64; ENTRY_WORDS]) -> Self {
+        Self {
             asid: head & ASID_MASK,
-            kind: Kind::from_number(head >> KIND_SHIFT & 3)?,
+            kind: Kind::from_low_bits(head >> KIND_SHIFT),
             validated: head & VALIDATED != 0,
             fixed: head & FIXED != 0,
             gpa,
-        };
-        entry.is_well_formed(n).then_some(entry)
+        }
     }
 
     /// The two words of the entry.
@@ -138,6 +173,30 @@ impl Entry {
     #[inline]
     fn has_guest_and_address(&self) -> bool {
         self.asid != HOST && is_asid(self.asid) && is_address(self.gpa)
+    }
+
+    /// The first rule that a bad entry without spare bits breaks, from its
+    /// word 0 alone: if nothing is wrong there, word 1 is. It does not take the
+    /// decoded entry, as good ones would then be built in memory.
+    #[cold]
+    fn first_broken_rule(head: u64) -> Reason {
+        let entry = Self::from_words([head, 0]);
+        let asid_fits = match entry.kind {
+            Kind::Shared | Kind::Leaf => entry.asid == HOST,
+            Kind::Private | Kind::Mergeable => entry.asid != HOST && is_asid(entry.asid),
+        };
+        let flags_fit = match entry.kind {
+            Kind::Shared | Kind::Leaf => !entry.validated && !entry.fixed,
+            Kind::Private => !entry.fixed,
+            Kind::Mergeable => entry.validated || !entry.fixed,
+        };
+        if !asid_fits {
+            Reason::Asid
+        } else if !flags_fit {
+            Reason::Flags
+        } else {
+            Reason::Address
+        }
     }
 
     /// The number of the leaf's frame; only a fixed page has one.
@@ -179,4 +238,155 @@ pub fn is_present(word: u64) -> bool {
 #[inline]
 pub fn present_at(gpa: u64) -> u64 {
     gpa | PRESENT
+}
+
+#[cfg(test)]
+mod tests {
+    use super::*;
+
+    const N: usize = 8;
+
+    fn reason(words: [u64; ENTRY_WORDS]) -> Option<Reason> {
+        Entry::decode(words, N).err()
+    }
+
+    #[test]
+    fn spare_bits_are_reason_1() {
+        for bit in 20..64 {
+            for [head, gpa] in [[0, 0], [0x10007, 0x50000], [0xe0007, 0x3000], [0x30000, 0]] {
+                assert_eq!(reason([head, gpa]), None);
+                let words = [head | 1 << bit, gpa];
+                assert_eq!(reason(words), Some(Reason::SpareBits), "{words:x?}");
+            }
+        }
+    }
+
+    #[test]
+    fn an_asid_against_the_type_is_reason_2() {
+        for words in [
+            [1, 0],
+            [0xffff, 0],
+            [0x10000, 0x1000],
+            [0x10200, 0x1000],
+            [0x20000, 0x1000],
+            [0x2ffff, 0x1000],
+            [0xe0200, 0x3000],
+            [0x30001, 0],
+        ] {
+            assert_eq!(reason(words), Some(Reason::Asid), "{words:x?}");
+        }
+    }
+
+    #[test]
+    fn flags_against_the_type_are_reason_3() {
+        for words in [
+            [0x40000, 0],
+            [0x80000, 0],
+            [0xc0000, 0],
+            [0x90007, 0x3000],
+            [0xd0007, 0x3000],
+            [0xa0007, 0x3000],
+            [0x70000, 0],
+            [0xb0000, 0],
+        ] {
+            assert_eq!(reason(words), Some(Reason::Flags), "{words:x?}");
+        }
+    }
+
+    #[test]
+    fn a_wrong_word_1_is_reason_4() {
+        for words in [
+            [0, 0x1000],
+            [0, 1],
+            [0x30000, 0x1000],
+            [0x10007, 0x1001],
+            [0x50007, 1 << 52],
+            [0x20007, 0x800],
+            [0x60007, u64::MAX],
+            [0xe0007, 0x3001],
+            [0xe0007, 0x8000],
+            [0xe0007, (1 << 52) - 0x1000],
+        ] {
+            assert_eq!(reason(words), Some(Reason::Address), "{words:x?}");
+        }
+    }
+
+    #[test]
+    fn a_leaf_is_below_n() {
+        let fixed = [0xe0007, 0x3000];
+        assert_eq!(Entry::decode(fixed, 3), Err(Reason::Address));
+        assert!(Entry::decode(fixed, 4).is_ok());
+    }
+
+    #[test]
+    fn of_two_broken_rules_the_first_decides() {
+        for (words, first) in [
+            // Spare bits and the ASID.
+            ([0x100001, 0], Reason::SpareBits),
+            ([0x110000, 0x1000], Reason::SpareBits),
+            // The ASID and the flags.
+            ([0x40001, 0], Reason::Asid),
+            ([0x90000, 0x1000], Reason::Asid),
+            ([0xa0200, 0x3000], Reason::Asid),
+            ([0xb0001, 0], Reason::Asid),
+            // The flags and the address.
+            ([0x40000, 0x1000], Reason::Flags),
+            ([0x90007, 0x1001], Reason::Flags),
+            ([0xa0007, 0x8000], Reason::Flags),
+            ([0x70000, 0x1000], Reason::Flags),
+            // Rules that are not neighbours.
+            ([0x180000, 0], Reason::SpareBits),
+            ([0x100000, 0x1000], Reason::SpareBits),
+            ([0x10000, 0x1001], Reason::Asid),
+        ] {
+            assert_eq!(reason(words), Some(first), "{words:x?}");
+        }
+    }
+
+    /// Whether the entry keeps each of the four rules, from document 01,
+    /// "Well formed".
+    fn rules_kept([head, gpa]: [u64; ENTRY_WORDS]) -> [bool; 4] {
+        let asid = head & 0xffff;
+        let kind = head >> 16 & 3;
+        let [validated, fixed] = [18, 19].map(|bit| head >> bit & 1 == 1);
+        let owned = kind == 1 || kind == 2;
+        let address = gpa % 4096 == 0 && gpa < 1 << 52;
+        [
+            head >> 20 == 0,
+            if owned {
+                (1..=511).contains(&asid)
+            } else {
+                asid == 0
+            },
+            if owned {
+                !fixed || validated && kind != 1
+            } else {
+                !validated && !fixed
+            },
+            if owned {
+                address && (!fixed || gpa / 4096 < N as u64)
+            } else {
+                gpa == 0
+            },
+        ]
+    }
+
+    #[test]
+    fn the_reason_is_the_first_broken_rule() {
+        let asids = [0, 1, 7, 511, 512, 0x8000, 0xffff];
+        let gpas = [0, 1, 0x800, 0x1000, 0x7000, 0x7001, 0x8000, 0x50000];
+        let far = [(1 << 52) - 0x1000, 1 << 52, 1 << 63, u64::MAX];
+        for (asid, gpa) in asids
+            .into_iter()
+            .flat_map(|asid| gpas.into_iter().chain(far).map(move |gpa| (asid, gpa)))
+        {
+            // Every type, all flags, and the lowest spare bit.
+            for above in 0..32 {
+                let words = [above << 16 | asid, gpa];
+                let broken = rules_kept(words).iter().position(|kept| !kept);
+                let number = reason(words).map(|reason| reason as usize);
+                assert_eq!(number, broken.map(|rule| rule + 1), "{words:x?}");
+            }
+        }
+    }
 }

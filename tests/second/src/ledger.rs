@@ -158,7 +158,9 @@ impl Ledger {
 /// Whether the call may give this answer at all.
 fn fits(call: &Call, answer: Answer) -> bool {
     match answer {
-        Answer::Refused(number) => (1..=17).contains(&number),
+        Answer::Refused { number, reason } => {
+            matches!((number, reason), (1..=4 | 6..=17, 0) | (5, 1..=4))
+        }
         Answer::None | Answer::Closed { .. } => matches!(call, Call::Rmpupdate { .. }),
         Answer::Opened | Answer::Already => matches!(call, Call::Pvalidate { .. }),
         Answer::Word(_) => matches!(call, Call::Read { .. }),
@@ -179,10 +181,13 @@ fn fits(call: &Call, answer: Answer) -> bool {
 fn page_fits(request: &Request, reply: Reply) -> bool {
     match (request, reply) {
         (Request::PageRead { .. }, Reply::Page(page)) => matches!(page.len(), 0 | FRAME_WORDS),
+        (Request::PageWrite { .. } | Request::PageCheck { .. }, Reply::Answer(Answer::Done)) => {
+            true
+        }
         (
             Request::PageWrite { .. } | Request::PageCheck { .. },
-            Reply::Answer(Answer::Done | Answer::Refused(1 | 2 | 4..=6)),
-        ) => true,
+            Reply::Answer(Answer::Refused { number, reason }),
+        ) => matches!((number, reason), (1 | 2 | 4 | 6, 0) | (5, 1..=4)),
         _ => false,
     }
 }
@@ -193,7 +198,7 @@ fn count_places(table: &[u64], memory: &[u64]) -> Result<BTreeMap<Holding, u64>,
     let (entries, _) = table.as_chunks::<ENTRY_WORDS>();
     let decode = |frame: usize| {
         Entry::decode(entries[frame], entries.len())
-            .ok_or_else(|| format!("the entry of frame {frame:x} is not well formed"))
+            .map_err(|reason| format!("the entry of frame {frame:x} is bad: {reason:?}"))
     };
     let mut places = BTreeMap::new();
     for frame in 0..entries.len() {
@@ -275,6 +280,11 @@ mod tests {
         }
     }
 
+    /// A refusal that carries no reason.
+    fn refused(number: u8) -> Answer {
+        Answer::Refused { number, reason: 0 }
+    }
+
     const OPENED: [&str; 2] = ["U 0 1000 50000 7 2", "V 7 50000 1000 2"];
 
     #[test]
@@ -314,7 +324,7 @@ mod tests {
         let mut run = Run::new();
         let read = "R 7 50000 1000 1 1 3";
         assert!(run.claim(read, Answer::Word(0)).is_err());
-        assert!(run.claim(read, Answer::Refused(9)).is_ok());
+        assert!(run.claim(read, refused(9)).is_ok());
         assert!(run.claim("R 7 50000 1000 0 0 3", Answer::Word(0)).is_ok());
         // A write before the opening opens nothing.
         let write = "W 7 50000 1000 1 1 3 2a";
@@ -369,8 +379,26 @@ mod tests {
         let mut run = Run::new();
         assert!(run.claim("C 1", Answer::Done).is_err());
         assert!(run.claim("X 0 1000", Answer::Word(0)).is_err());
-        assert!(run.claim("X 0 1000", Answer::Refused(18)).is_err());
-        assert!(run.claim("X 0 1000", Answer::Refused(0)).is_err());
+        assert!(run.claim("X 0 1000", refused(18)).is_err());
+        assert!(run.claim("X 0 1000", refused(0)).is_err());
+    }
+
+    #[test]
+    fn a_refusal_with_a_wrong_reason_is_caught() {
+        let mut run = Run::new();
+        for number in 0..=18 {
+            for reason in 0..=5 {
+                let fits = match number {
+                    0 | 18 => false,
+                    5 => reason != 0 && reason != 5,
+                    _ => reason == 0,
+                };
+                let refused = Answer::Refused { number, reason };
+                for line in ["X 0 1000", "C 1", "R 7 50000 1000 2 2 3"] {
+                    assert_eq!(run.claim(line, refused).is_ok(), fits, "{refused:?}");
+                }
+            }
+        }
     }
 
     /// The three requests for a whole page by the host and two guests.
@@ -432,9 +460,13 @@ mod tests {
                 let noted = Ledger::new().note_request(&request, reply, &[]);
                 assert_eq!(noted.is_ok(), fits, "{reply:?}");
             };
-            for number in 0..=18 {
-                let given = [1, 2, 4, 5, 6].contains(&number);
-                check(Reply::Answer(Refused(number)), given && !reads);
+            for (number, reason) in (0..=18).flat_map(|number| (0..=5).map(move |r| (number, r))) {
+                let given = match number {
+                    1 | 2 | 4 | 6 => reason == 0,
+                    5 => reason != 0 && reason != 5,
+                    _ => false,
+                };
+                check(Reply::Answer(Refused { number, reason }), given && !reads);
             }
             check(Reply::Answer(Done), !reads);
             for answer in [

@@ -1,6 +1,6 @@
 //! A page ownership monitor: the nine calls of document 01 and the three of
 //! request Q-1 on a lent table and a lent memory, the script program, and a
-//! ledger for demand 3.
+//! ledger for demand 3. Refusals are those of request Q-2.
 
 #![forbid(unsafe_code)]
 
@@ -15,7 +15,7 @@ pub mod script;
 
 pub use access::{census, read, write};
 pub use call::{Answer, Call, Refusal, Reply, Request};
-pub use layout::{Entry, Kind, LeafWord};
+pub use layout::{Entry, Kind, LeafWord, Reason};
 pub use ledger::Ledger;
 pub use pages::{page_check, page_read, page_write};
 pub use rules::{pfix, pmerge, punfix, punmerge, pvalidate, rmpupdate};

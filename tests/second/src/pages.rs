@@ -69,6 +69,11 @@ mod tests {
         (0..length).map(|index| !index).collect()
     }
 
+    /// A refusal that carries no reason.
+    fn refused(number: u8) -> Answer {
+        Answer::Refused { number, reason: 0 }
+    }
+
     impl Machine {
         fn new() -> Self {
             Self {
@@ -82,7 +87,10 @@ mod tests {
             for line in lines {
                 let call = parse(line.as_bytes()).unwrap();
                 let answer = call.make(&mut machine.table, &mut machine.memory);
-                assert!(!matches!(answer, Answer::Refused(_)), "{line}: {answer:?}");
+                assert!(
+                    !matches!(answer, Answer::Refused { .. }),
+                    "{line}: {answer:?}"
+                );
             }
             machine
         }
@@ -108,25 +116,25 @@ mod tests {
             write(&self.table, &mut self.memory, caller, gpa, hpa, 0, 0, index, word)
         }
 
-        /// A write of `words` is refused with this number and changes nothing.
-        fn refuses_run(&mut self, arguments: [u64; 3], words: &[u64], number: u8) {
+        /// A write of `words` is refused like this and changes nothing.
+        fn refuses_run(&mut self, arguments: [u64; 3], words: &[u64], refused: Answer) {
             let before = self.memory.clone();
             let answer = self.write(arguments, words);
             let length = words.len();
-            assert_eq!(
-                answer,
-                Answer::Refused(number),
-                "{arguments:x?} run of {length}"
-            );
+            assert_eq!(answer, refused, "{arguments:x?} run of {length}");
             assert!(self.memory == before);
         }
 
-        /// All three calls are refused with this number, as READ and WRITE are.
+        /// All three calls are refused with this number and no reason, as READ
+        /// and WRITE are.
         fn refuses(&mut self, arguments: [u64; 3], number: u8) {
-            let refused = Answer::Refused(number);
+            self.refuses_like(arguments, refused(number));
+        }
+
+        fn refuses_like(&mut self, arguments: [u64; 3], refused: Answer) {
             assert_eq!(self.check(arguments), refused, "{arguments:x?}");
             assert_eq!(self.read(arguments), []);
-            self.refuses_run(arguments, &run(512), number);
+            self.refuses_run(arguments, &run(512), refused);
             assert_eq!(self.read_word(arguments, 0), refused);
             assert_eq!(self.write_word(arguments, 0, 1), refused);
         }
@@ -215,7 +223,7 @@ mod tests {
             };
             machine.refuses([0, 0, 0], 1);
             machine.refuses([512, 1, 1 << 52], 1); // 1 before 2
-            machine.refuses_run([0, 0, 0], &run(511), 1);
+            machine.refuses_run([0, 0, 0], &run(511), refused(1));
         }
     }
 
@@ -263,10 +271,10 @@ mod tests {
         for length in [0, 1, 511, 513, 1024] {
             // With a good run: done (twice), 4, 5, 6 (twice).
             for hpa in [0, 0x9000, 0xa000, 0x6000, 0x1000, 0x4000] {
-                machine.refuses_run([0, 0, hpa], &run(length), 2);
-                machine.refuses_run([7, 0x50000, hpa], &run(length), 2);
+                machine.refuses_run([0, 0, hpa], &run(length), refused(2));
+                machine.refuses_run([7, 0x50000, hpa], &run(length), refused(2));
             }
-            machine.refuses_run(BAD_ARGUMENTS[0], &run(length), 2);
+            machine.refuses_run(BAD_ARGUMENTS[0], &run(length), refused(2));
         }
     }
 
@@ -280,23 +288,24 @@ mod tests {
     }
 
     #[test]
-    fn entries_not_well_formed_are_5() {
-        for bad in [
-            [0xe0007, 0x8000],
-            [0xa0007, 0x3000],
-            [0x10000, 0x1000],
-            [0x10200, 0x1000],
-            [0x30000, 0x1000],
-            [0x100000, 0],
-            [0, 0x1000],
-            [1, 0],
-            [0x40000, 0],
-            [0x80000, 0],
+    fn entries_not_well_formed_are_5_with_their_reason() {
+        for (bad, reason) in [
+            ([0xe0007, 0x8000], 4),
+            ([0xa0007, 0x3000], 3),
+            ([0x10000, 0x1000], 2),
+            ([0x10200, 0x1000], 2),
+            ([0x30000, 0x1000], 4),
+            ([0x100000, 0], 1),
+            ([0, 0x1000], 4),
+            ([1, 0], 2),
+            ([0x40000, 0], 3),
+            ([0x80000, 0], 3),
         ] {
+            let refused = Answer::Refused { number: 5, reason };
             let mut machine = Machine::new();
             machine.table[12..14].copy_from_slice(&bad);
-            machine.refuses([0, 0, 0x6000], 5);
-            machine.refuses([7, 0x1000, 0x6000], 5);
+            machine.refuses_like([0, 0, 0x6000], refused);
+            machine.refuses_like([7, 0x1000, 0x6000], refused);
             // Other frames are none of the call's business.
             machine.accepts([0, 0, 0x5000], 5);
             machine.accepts([0, 0, 0x7000], 7);

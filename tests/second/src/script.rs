@@ -170,6 +170,14 @@ mod tests {
     }
 
     #[test]
+    fn a_refusal_prints_its_number_alone() {
+        let call = Call::Punfix { caller: 0, hpa: 0 };
+        for (number, reason, line) in [(5, 3, "X no 5"), (12, 0, "X no 12")] {
+            assert_eq!(reply(&call, Answer::Refused { number, reason }), line);
+        }
+    }
+
+    #[test]
     fn a_call_prints_as_its_line() {
         for line in [
             "U 0 1000 50000 7 2",

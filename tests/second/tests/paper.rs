@@ -1,8 +1,8 @@
 //! The data of document 01: its worked script, its entries on both sides of
-//! the line, and the mistakes that look right.
+//! the line with the reasons of request Q-2, and the mistakes that look right.
 
 use second::script::{parse, run};
-use second::{Answer, Entry, LeafWord};
+use second::{Answer, Entry, LeafWord, Reason};
 
 const INPUT: &str = "\
 U 0 1000 50000 7 2 ; V 7 50000 1000 2 ; W 7 50000 1000 2 2 3 2a
@@ -44,13 +44,13 @@ const GOOD: [[u64; 2]; 6] = [
     [0x30000, 0],
 ];
 
-const BAD: [[u64; 2]; 6] = [
-    [0xe0007, 0x8000],
-    [0xa0007, 0x3000],
-    [0x10000, 0x1000],
-    [0x10200, 0x1000],
-    [0x30000, 0x1000],
-    [0x100000, 0],
+const BAD: [([u64; 2], Reason); 6] = [
+    ([0xe0007, 0x8000], Reason::Address), // the leaf is frame N
+    ([0xa0007, 0x3000], Reason::Flags),   // FIXED without VALIDATED
+    ([0x10000, 0x1000], Reason::Asid),    // PRIVATE of guest 0
+    ([0x10200, 0x1000], Reason::Asid),    // PRIVATE of guest 512
+    ([0x30000, 0x1000], Reason::Address), // a LEAF with an address
+    ([0x100000, 0], Reason::SpareBits),   // bit 20
 ];
 
 #[test]
@@ -59,8 +59,8 @@ fn entries_on_both_sides_of_the_line() {
         let entry = Entry::decode(words, 8).expect("a good entry");
         assert_eq!(entry.encode(), words);
     }
-    for words in BAD {
-        assert_eq!(Entry::decode(words, 8), None, "{words:x?}");
+    for (words, reason) in BAD {
+        assert_eq!(Entry::decode(words, 8), Err(reason), "{words:x?}");
     }
 }
 
@@ -74,7 +74,12 @@ fn entries_on_both_sides_of_the_line_in_a_table() {
     };
     let counts = GOOD.map(census_with);
     assert_eq!(counts, [0, 0, 1, 0, 0, 0].map(Answer::Count));
-    assert_eq!(BAD.map(census_with), [Answer::Refused(5); 6]);
+    let refusals = BAD.map(|(words, _)| census_with(words));
+    let reasons = [4, 3, 2, 2, 4, 1];
+    assert_eq!(
+        refusals,
+        reasons.map(|reason| Answer::Refused { number: 5, reason })
+    );
 }
 
 #[test]
@@ -84,6 +89,11 @@ fn leaf_words_on_both_sides_of_the_line() {
     assert_eq!(LeafWord::decode(0x50000), LeafWord::Absent);
     assert_eq!(LeafWord::decode(0x50003), LeafWord::Misshapen);
     assert_eq!(LeafWord::decode(0x10000000000001), LeafWord::Misshapen);
+}
+
+/// A refusal that carries no reason.
+fn refused(number: u8) -> Answer {
+    Answer::Refused { number, reason: 0 }
 }
 
 /// A table of 8 frames and a memory of 10.
@@ -101,7 +111,10 @@ impl Machine {
         };
         for line in lines {
             let answer = machine.make(line);
-            assert!(!matches!(answer, Answer::Refused(_)), "{line}: {answer:?}");
+            assert!(
+                !matches!(answer, Answer::Refused { .. }),
+                "{line}: {answer:?}"
+            );
         }
         machine
     }
@@ -137,7 +150,7 @@ fn the_merged_frame_becomes_shared() {
     let mut machine = Machine::after(&[&FIXED[..], &EQUAL, &["M 0 1000 2000"]].concat());
     assert_eq!(machine.table[4..6], [0, 0]);
     assert_eq!(machine.memory[2 * 512..3 * 512], [0; 512]);
-    machine.check("R 9 60000 2000 2 2 3", Answer::Refused(6));
+    machine.check("R 9 60000 2000 2 2 3", refused(6));
     machine.check("R 9 60000 1000 2 2 3", Answer::Word(0x2a));
     machine.check("C 9", Answer::Count(1));
 }
@@ -151,7 +164,7 @@ fn a_taken_leaf_word_is_not_overwritten() {
     ];
     let lines = [&FIXED[..], &EQUAL, &["M 0 1000 2000"], &again].concat();
     let mut machine = Machine::after(&lines);
-    machine.check("M 0 1000 4000", Answer::Refused(14));
+    machine.check("M 0 1000 4000", refused(14));
     machine.check("R 9 60000 1000 2 2 3", Answer::Word(0x2a));
     machine.check("R 9 61000 4000 2 2 3", Answer::Word(0x2a));
     machine.check("C 9", Answer::Count(2));
@@ -160,7 +173,7 @@ fn a_taken_leaf_word_is_not_overwritten() {
 #[test]
 fn a_leaf_serves_one_fixed_page() {
     let mut machine = Machine::after(&[&FIXED[..], &EQUAL].concat());
-    machine.check("F 0 2000 3000", Answer::Refused(15));
+    machine.check("F 0 2000 3000", refused(15));
     machine.check("R 7 50000 1000 2 2 3", Answer::Word(0x2a));
     machine.check("X 0 1000", Answer::Done);
     machine.check("U 0 3000 0 0 3", Answer::None);
@@ -170,9 +183,9 @@ fn a_leaf_serves_one_fixed_page() {
 #[test]
 fn a_private_access_checks_the_owner() {
     let mut machine = Machine::after(&["U 0 1000 50000 7 1", "V 7 50000 1000 1"]);
-    machine.check("W 9 50000 1000 1 1 3 2a", Answer::Refused(7));
-    machine.check("R 9 50000 1000 1 1 3", Answer::Refused(7));
-    machine.check("R 7 51000 1000 1 1 3", Answer::Refused(8));
+    machine.check("W 9 50000 1000 1 1 3 2a", refused(7));
+    machine.check("R 9 50000 1000 1 1 3", refused(7));
+    machine.check("R 7 51000 1000 1 1 3", refused(8));
     machine.check("R 7 50000 1000 1 1 3", Answer::Word(0));
 }
 

@@ -27,18 +27,21 @@ pub fn first_break<'a>(frames: usize, calls: impl IntoIterator<Item = &'a str>) 
 /// No history meets 5 or 12, which the ledger does not look at.
 fn sound(answer: Answer) -> Result<(), String> {
     match answer {
-        Answer::Refused(5 | 12) => Err(format!("{answer} is met")),
+        Answer::Refused { number: 5 | 12, .. } => Err(format!("{answer} is met")),
         _ => Ok(()),
     }
 }
 
 /// How the messages end, and the names that docs/PROMISES.md has for what is then false.
-const NAMES: [(&str, &str); 8] = [
+const NAMES: [(&str, &str); 11] = [
     (" openings", "counted"),
     (" was never opened", "opened-before"),
     (" was last written", "kept"),
     (" was found at the opening", "kept"),
-    (" is not well formed", "never-broken"),
+    (" is bad: SpareBits", "never-broken"),
+    (" is bad: Asid", "never-broken"),
+    (" is bad: Flags", "never-broken"),
+    (" is bad: Address", "never-broken"),
     (" is no leaf", "never-broken"),
     (" is misshapen", "never-broken"),
     (" is met", "never-broken"),
