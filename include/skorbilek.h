@@ -43,7 +43,7 @@ enum {
 
 /* What kind of answer it is, and which fields of skorbilek_answer it fills. */
 enum {
-    SKORBILEK_REFUSED = 0, /* any call: `refusal` says why; table and memory are as they were */
+    SKORBILEK_REFUSED = 0, /* any call: `refusal` says why, with 5 `reason` too; table and memory are as they were */
     SKORBILEK_DONE = 1,    /* pfix, pmerge, punmerge, punfix, write, page_check, page_write: accepted */
     SKORBILEK_NONE = 2,    /* rmpupdate: accepted, and no open page was closed */
     SKORBILEK_CLOSED = 3,  /* rmpupdate: accepted, and the page of guest `asid` at `gpa` was closed */
@@ -59,7 +59,7 @@ enum {
     SKORBILEK_REFUSAL_ARGUMENT = 2,       /* no address, an ASID or word index above 511, a type not allowed, a run that is no page */
     SKORBILEK_REFUSAL_CALLER = 3,         /* the call is not this party's */
     SKORBILEK_REFUSAL_OUTSIDE = 4,        /* a named frame is N or above (read, write, pages: M or above) */
-    SKORBILEK_REFUSAL_BAD_ENTRY = 5,      /* the entry of a named frame is not well formed */
+    SKORBILEK_REFUSAL_BAD_ENTRY = 5,      /* the entry of a named frame is not well formed: `reason` says what is bad in it */
     SKORBILEK_REFUSAL_TYPE = 6,           /* the type is not the one needed */
     SKORBILEK_REFUSAL_OWNER = 7,          /* the page is another party's */
     SKORBILEK_REFUSAL_ADDRESS = 8,        /* the page is at another guest address */
@@ -74,6 +74,16 @@ enum {
     SKORBILEK_REFUSAL_STILL_SHARED = 17   /* another guest than the owner is left in the leaf */
 };
 
+/* What is bad in the entry that SKORBILEK_REFUSAL_BAD_ENTRY is given for. The rules of an entry are looked at in this order, and the first
+   that is broken gives its number. Where two named frames have a bad entry, the one that comes first among the arguments decides; in
+   census the lowest such frame does. */
+enum {
+    SKORBILEK_REASON_SPARE_BITS = 1, /* a bit of word 0 above FIXED, 63 to 20, is set */
+    SKORBILEK_REASON_ASID = 2,       /* SHARED or LEAF with an ASID; PRIVATE or MERGEABLE with none, or with one above 511 */
+    SKORBILEK_REASON_FLAGS = 3,      /* SHARED or LEAF with a flag; PRIVATE and FIXED; FIXED and not VALIDATED */
+    SKORBILEK_REASON_ADDRESS = 4     /* word 1 of SHARED or LEAF is not 0; else it is no address, or, with FIXED, of no frame below N */
+};
+
 /* An answer. A field that its kind does not fill is 0. A call was accepted where `kind != SKORBILEK_REFUSED`. */
 typedef struct skorbilek_answer {
     uint64_t refusal; /* the refusal's number, 1 to 17; 0 if the call was accepted */
@@ -81,6 +91,7 @@ typedef struct skorbilek_answer {
     uint64_t asid;    /* CLOSED: whose page */
     uint64_t gpa;     /* CLOSED: the address that it had */
     uint64_t value;   /* WORD: the word; COUNT: how many places */
+    uint64_t reason;  /* with refusal 5, SKORBILEK_REASON_SPARE_BITS .. SKORBILEK_REASON_ADDRESS; else 0 */
 } skorbilek_answer;
 
 /* RMPUPDATE: the host gives the frame at hpa to guest asid at its address gpa, or makes it SHARED or a LEAF (asid and gpa 0).

@@ -123,10 +123,10 @@ fn check<C: Call, const T: usize, const M: usize>(
         let answer = translated(turn.call.ours(table1, memory1));
         assert_eq!(answer, turn.call.second(table2, memory2));
         match (answer, expect) {
-            (second::Answer::Refused(number), Expect::Refused(expected)) => {
+            (second::Answer::Refused { number, .. }, Expect::Refused(expected)) => {
                 assert_eq!(number, expected)
             }
-            (second::Answer::Refused(number), _) => panic!("refused with {number}"),
+            (second::Answer::Refused { number, .. }, _) => panic!("refused with {number}"),
             (_, Expect::Refused(expected)) => panic!("not refused with {expected}"),
             (_, Expect::Accepted) => (),
         }

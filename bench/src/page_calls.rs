@@ -4,8 +4,11 @@ use std::hint::black_box;
 
 use crate::calls::Call;
 
-/// The one refusal that is measured. The second implementation's reading hands back an empty part then, and no number.
-const TYPE: u8 = 6;
+/// The one refusal that is measured, 6. The second implementation's reading hands back an empty part then, and no number.
+const TYPE: second::Answer = second::Answer::Refused {
+    number: 6,
+    reason: 0,
+};
 
 #[derive(Clone, Copy)]
 pub struct PageRead {
@@ -38,7 +41,7 @@ impl Call for PageRead {
     fn second(self, table: &mut [u64], memory: &mut [u64]) -> second::Answer {
         let (caller, gpa, hpa) = self.arguments();
         match black_box(second::page_read(table, memory, caller, gpa, hpa)) {
-            [] => second::Answer::Refused(TYPE),
+            [] => TYPE,
             _ => second::Answer::Done,
         }
     }

@@ -20,17 +20,19 @@ enum {
 static const uint64_t NO_ADDRESS = UINT64_C(1) << 52;
 static const uint64_t LAST_ADDRESS = (UINT64_C(1) << 52) - 4096;
 
-/* Frames 8 and 9 have no entry. */
-static const uint64_t ENTRIES[TABLE_WORDS] = {
+/* The entries that every case starts with. Frames 8 and 9 have none. */
+static uint64_t entries[TABLE_WORDS] = {
     0,        0,       /* frame 0: SHARED */
     0x50007,  0x50000, /* frame 1: guest 7's, PRIVATE and open */
     0x60007,  0x51000, /* frame 2: guest 7's, MERGEABLE and open */
     0xe0007,  0x4000,  /* frame 3: guest 7's, fixed, with its leaf in frame 4 */
     0x30000,  0,       /* frame 4: a LEAF */
     0x10007,  0x52000, /* frame 5: guest 7's, not open */
-    0x100000, 0,       /* frame 6: not well formed */
+    0x100000, 0,       /* frame 6: not well formed, for the reason below */
     0,        0,       /* frame 7: SHARED */
 };
+
+static uint64_t reason = SKORBILEK_REASON_SPARE_BITS;
 
 static uint64_t table[GREATEST_TABLE + SKORBILEK_ENTRY_WORDS];
 static uint64_t memory[GREATEST_MEMORY + PAGE];
@@ -44,7 +46,7 @@ static int faults = 0;
 static void start(void)
 {
     uint64_t i;
-    memcpy(table, ENTRIES, sizeof ENTRIES);
+    memcpy(table, entries, sizeof entries);
     for (i = 0; i < MEMORY_WORDS; i++)
         memory[i] = before[i] = i + 1;
     for (i = 0; i < 2 * PAGE; i++)
@@ -61,18 +63,20 @@ static void right(int is_right, const char *what, uint64_t caller, uint64_t gpa,
     }
 }
 
+/* It has this refusal and kind and nothing else, but that 5, which frame 6 alone gives, has its reason. */
 static int is(skorbilek_answer a, uint64_t refusal, uint64_t kind)
 {
-    return a.refusal == refusal && a.kind == kind && a.asid == 0 && a.gpa == 0 && a.value == 0;
+    return a.refusal == refusal && a.kind == kind && a.asid == 0 && a.gpa == 0 && a.value == 0
+           && a.reason == (refusal == SKORBILEK_REFUSAL_BAD_ENTRY ? reason : 0);
 }
 
 /* No word of the table, nor of the first M frames, was changed. */
 static int is_unchanged(void)
 {
-    return memcmp(table, ENTRIES, sizeof ENTRIES) == 0 && memcmp(memory, before, sizeof before) == 0;
+    return memcmp(table, entries, sizeof entries) == 0 && memcmp(memory, before, sizeof before) == 0;
 }
 
-/* A page of so many words is not written, for this reason. */
+/* A page of so many words is not written, with this refusal. */
 static void refuses_run(size_t t, size_t m, uint64_t caller, uint64_t gpa, uint64_t hpa, size_t count, uint64_t refusal)
 {
     skorbilek_answer written;
@@ -82,7 +86,7 @@ static void refuses_run(size_t t, size_t m, uint64_t caller, uint64_t gpa, uint6
     right(is_unchanged(), "page_write: refused, and changes a word", caller, gpa, hpa);
 }
 
-/* All three are refused for this reason. */
+/* All three are refused with this number. */
 static void refuses_lent(size_t t, size_t m, uint64_t caller, uint64_t gpa, uint64_t hpa, uint64_t refusal)
 {
     skorbilek_answer checked;
@@ -183,6 +187,29 @@ static void frame(void)
     }
 }
 
+/* 5 again, for each reason: an entry that breaks one rule, and, but for the last, one that breaks the next rule too. */
+static void bad_entry(void)
+{
+    static const uint64_t bad[][3] = {
+        {0x100000, 0, SKORBILEK_REASON_SPARE_BITS},
+        {0x110000, 0x1000, SKORBILEK_REASON_SPARE_BITS},
+        {0x10200, 0x1000, SKORBILEK_REASON_ASID},
+        {0x40007, 0, SKORBILEK_REASON_ASID},
+        {0xa0007, 0x3000, SKORBILEK_REASON_FLAGS},
+        {0xa0007, 0x8000, SKORBILEK_REASON_FLAGS},
+        {0xe0007, 0x8000, SKORBILEK_REASON_ADDRESS},
+    };
+    uint64_t *const entry = entries + SKORBILEK_ENTRY_WORDS * 6;
+    size_t i;
+    for (i = 0; i < sizeof bad / sizeof *bad; i++) {
+        entry[0] = bad[i][0];
+        entry[1] = bad[i][1];
+        reason = bad[i][2];
+        refuses(0, 0, 0x6000, SKORBILEK_REFUSAL_BAD_ENTRY);
+        refuses(7, 0x50000, 0x6000, SKORBILEK_REFUSAL_BAD_ENTRY);
+    }
+}
+
 /* The last frame of the greatest memory, and the one after it. */
 static void greatest(void)
 {
@@ -200,6 +227,7 @@ int main(void)
     geometry();
     argument();
     frame();
+    bad_entry();
     greatest();
     printf("%d cases, %d wrong\n", cases, faults);
     return faults == 0 ? 0 : 1;

@@ -14,13 +14,13 @@ static uint64_t memory[SKORBILEK_FRAME_WORDS * 10];
 static int line = 0;
 static int faults = 0;
 
-/* The answer to the next line has these five numbers. */
+/* The answer to the next line has these five numbers, and no reason: no line is refused with 5. */
 static void told(skorbilek_answer a, uint64_t refusal, uint64_t kind, uint64_t asid, uint64_t gpa, uint64_t value)
 {
     line++;
-    if (a.refusal != refusal || a.kind != kind || a.asid != asid || a.gpa != gpa || a.value != value) {
-        printf("line %d: refusal %d, kind %d, asid %d, gpa %d, value %d\n", line, (int)a.refusal, (int)a.kind, (int)a.asid, (int)a.gpa,
-               (int)a.value);
+    if (a.refusal != refusal || a.kind != kind || a.asid != asid || a.gpa != gpa || a.value != value || a.reason != 0) {
+        printf("line %d: refusal %d, kind %d, asid %d, gpa %d, value %d, reason %d\n", line, (int)a.refusal, (int)a.kind, (int)a.asid,
+               (int)a.gpa, (int)a.value, (int)a.reason);
         faults++;
     }
 }

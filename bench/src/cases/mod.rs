@@ -67,7 +67,7 @@ pub const ACCEPTED: [Case; 17] = [
 ];
 
 /// Refused calls, on warm frames.
-pub const REFUSED: [Case; 15] = [
+pub const REFUSED: [Case; 17] = [
     case!(
         "PMERGE, 16: the last word differs",
         Expect::Refused(16),
@@ -87,6 +87,12 @@ pub const REFUSED: [Case; 15] = [
     case!("READ, 3", Expect::Refused(3), refused::read),
     case!("WRITE, 3", Expect::Refused(3), refused::write),
     case!("CENSUS, 2", Expect::Refused(2), refused::census),
+    case!("READ, 5", Expect::Refused(5), refused::read_bad),
+    case!(
+        "CENSUS, 5 at the first frame",
+        Expect::Refused(5),
+        refused::census_bad
+    ),
     case!("page_check, 6", Expect::Refused(6), pages::check_owned),
     case!("page_read, 6", Expect::Refused(6), pages::read_owned),
     case!("page_write, 6", Expect::Refused(6), pages::write_owned),

@@ -1,12 +1,13 @@
-//! The nine calls, refused by the third of their checks: 3, the wrong caller; and 2 for CENSUS, which anyone may call.
+//! The nine calls, refused by the third of their checks: 3, the wrong caller; and 2 for CENSUS, which anyone may call. READ and CENSUS
+//! refused for an entry that is bad too: 5, with the reason.
 
-use common::layout::{address, LEAF};
+use common::layout::{address, Entry, ADDRESS_END, LEAF};
 use skorbilek::HOST;
 
 use super::{access, assignment, steady};
 use crate::calls::{Census, Pfix, Pmerge, Punfix, Punmerge, Pvalidate, Read, Rmpupdate, Write};
 use crate::scene::Scene;
-use crate::world::{gpa, guest, World};
+use crate::world::{gpa, guest, private, World};
 
 const FRAMES: usize = 4;
 /// A guest, where the caller has to be the host.
@@ -84,4 +85,31 @@ pub fn write(n: usize) -> Scene<Write, 0, 0> {
 
 pub fn census(n: usize) -> Scene<Census, 0, 0> {
     refused(n, |_| Census { asid: HOST })
+}
+
+/// READ of a page whose entry breaks the last of the four rules: word 1 is no address.
+pub fn read_bad(n: usize) -> Scene<Read, 0, 0> {
+    Scene {
+        world: bad_pages(n),
+        turns: steady(FRAMES, |frame| access::reading(frame, 0)),
+    }
+}
+
+/// CENSUS, refused at the first frame.
+pub fn census_bad(n: usize) -> Scene<Census, 0, 0> {
+    Scene {
+        world: bad_pages(n),
+        turns: steady(FRAMES, |frame| Census { asid: guest(frame) }),
+    }
+}
+
+/// Open pages at no address, in the first frames.
+fn bad_pages(n: usize) -> World {
+    let mut world = World::new(n);
+    for frame in 0..FRAMES {
+        let address = gpa(frame) + ADDRESS_END;
+        let page = private(frame).open();
+        world.put(frame, Entry { address, ..page });
+    }
+    world
 }

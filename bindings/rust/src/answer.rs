@@ -11,6 +11,7 @@ pub(crate) struct Flat {
     asid: u64,
     gpa: u64,
     value: u64,
+    reason: u64,
 }
 
 /// What an accepted call answers.
@@ -41,15 +42,16 @@ pub enum Answer {
 #[derive(Clone, Copy, PartialEq, Eq, Hash, Debug)]
 pub enum Refusal {
     /// 1: the lengths of table and memory break the sizes.
-    Geometry = 1,
+    Geometry,
     /// 2: no address, an ASID or word index above 511, a type that is not allowed, a written run that is not 512 words.
     Argument,
     /// 3: the call is not this party's.
     Caller,
     /// 4: a named frame is N or above (READ, WRITE and whole pages: M or above).
     Outside,
-    /// 5: the entry of a named frame is not well formed.
-    BadEntry,
+    /// 5: the entry of a named frame is not well formed, for this reason. Of two named frames with such an entry it is that of the one
+    /// that comes first among the arguments, and in CENSUS that of the lowest frame.
+    BadEntry(Reason),
     /// 6: the type is not the one needed.
     PageType,
     /// 7: the page is another party's.
@@ -76,14 +78,64 @@ pub enum Refusal {
     StillShared,
 }
 
+/// What is bad in an entry: the first of the rules, in this order, that it breaks.
+///
+/// ```
+/// use skorbilek::{read, Reason, Refusal, HOST, SHARED};
+///
+/// // something has set bit 20 of frame 2's entry, and has given frame 3, which is nobody's, an address
+/// let mut table = [0; 16];
+/// table[2 * 2] = 0x100000;
+/// table[2 * 3 + 1] = 0x50000;
+/// let memory = vec![0; 5120];
+/// let refusal = |hpa| read(&table, &memory, HOST, 0, hpa, SHARED, SHARED, 0).unwrap_err();
+/// assert_eq!(refusal(0x2000), Refusal::BadEntry(Reason::SpareBits));
+/// assert_eq!(refusal(0x3000), Refusal::BadEntry(Reason::Address));
+/// ```
+#[derive(Clone, Copy, PartialEq, Eq, Hash, Debug)]
+pub enum Reason {
+    /// 1: a bit of word 0 above FIXED, 63 to 20, is set.
+    SpareBits = 1,
+    /// 2: SHARED or LEAF with an ASID; PRIVATE or MERGEABLE with none, or with one above 511.
+    Asid = 2,
+    /// 3: SHARED or LEAF with a flag; PRIVATE and FIXED; FIXED and not VALIDATED.
+    Flags = 3,
+    /// 4: word 1 of SHARED or LEAF is not 0; else it is no address, or, with FIXED, not that of a frame below N.
+    Address = 4,
+}
+
+impl Reason {
+    /// Its number in the rules, 1 to 4.
+    ///
+    /// ```
+    /// assert_eq!(skorbilek::Reason::Flags.number(), 3);
+    /// ```
+    pub fn number(self) -> u64 {
+        self as u64
+    }
+
+    /// Its name in the rules.
+    pub fn name(self) -> &'static str {
+        match self {
+            Reason::SpareBits => "spare bits",
+            Reason::Asid => "ASID against type",
+            Reason::Flags => "flags",
+            Reason::Address => "address",
+        }
+    }
+}
+
 impl Refusal {
-    /// All of them, by number.
-    pub const ALL: [Refusal; 17] = [
+    /// All of them, by number, and 5 once for each reason.
+    pub const ALL: [Refusal; 20] = [
         Refusal::Geometry,
         Refusal::Argument,
         Refusal::Caller,
         Refusal::Outside,
-        Refusal::BadEntry,
+        Refusal::BadEntry(Reason::SpareBits),
+        Refusal::BadEntry(Reason::Asid),
+        Refusal::BadEntry(Reason::Flags),
+        Refusal::BadEntry(Reason::Address),
         Refusal::PageType,
         Refusal::Owner,
         Refusal::Address,
@@ -104,7 +156,40 @@ impl Refusal {
     /// assert_eq!(skorbilek::Refusal::StillShared.number(), 17);
     /// ```
     pub fn number(self) -> u64 {
-        self as u64
+        match self {
+            Refusal::Geometry => 1,
+            Refusal::Argument => 2,
+            Refusal::Caller => 3,
+            Refusal::Outside => 4,
+            Refusal::BadEntry(_) => 5,
+            Refusal::PageType => 6,
+            Refusal::Owner => 7,
+            Refusal::Address => 8,
+            Refusal::NotValidated => 9,
+            Refusal::Fixed => 10,
+            Refusal::NotFixed => 11,
+            Refusal::BrokenLeaf => 12,
+            Refusal::NoPlace => 13,
+            Refusal::PlaceTaken => 14,
+            Refusal::LeafInUse => 15,
+            Refusal::Contents => 16,
+            Refusal::StillShared => 17,
+        }
+    }
+
+    /// The number of its reason: 1 to 4 with 5, and 0 with any other.
+    ///
+    /// ```
+    /// use skorbilek::{Reason, Refusal};
+    ///
+    /// assert_eq!(Refusal::BadEntry(Reason::Asid).reason(), 2);
+    /// assert_eq!(Refusal::BrokenLeaf.reason(), 0);
+    /// ```
+    pub fn reason(self) -> u64 {
+        match self {
+            Refusal::BadEntry(reason) => reason.number(),
+            _ => 0,
+        }
     }
 
     /// Its name in the rules.
@@ -114,7 +199,7 @@ impl Refusal {
             Refusal::Argument => "ARGUMENT",
             Refusal::Caller => "CALLER",
             Refusal::Outside => "OUTSIDE",
-            Refusal::BadEntry => "BAD ENTRY",
+            Refusal::BadEntry(_) => "BAD ENTRY",
             Refusal::PageType => "TYPE",
             Refusal::Owner => "OWNER",
             Refusal::Address => "ADDRESS",
@@ -134,11 +219,30 @@ impl Refusal {
 /// The number and the name.
 ///
 /// ```
-/// assert_eq!(skorbilek::Refusal::NoPlace.to_string(), "refused with 13, NO PLACE");
+/// assert_eq!(skorbilek::Reason::Asid.to_string(), "reason 2, ASID against type");
+/// ```
+impl fmt::Display for Reason {
+    fn fmt(&self, f: &mut fmt::Formatter<'_>) -> fmt::Result {
+        write!(f, "reason {}, {}", self.number(), self.name())
+    }
+}
+
+/// The number and the name, and those of the reason where there is one.
+///
+/// ```
+/// use skorbilek::{Reason, Refusal};
+///
+/// assert_eq!(Refusal::NoPlace.to_string(), "refused with 13, NO PLACE");
+/// let bad = Refusal::BadEntry(Reason::SpareBits);
+/// assert_eq!(bad.to_string(), "refused with 5, BAD ENTRY: reason 1, spare bits");
 /// ```
 impl fmt::Display for Refusal {
     fn fmt(&self, f: &mut fmt::Formatter<'_>) -> fmt::Result {
-        write!(f, "refused with {}, {}", self.number(), self.name())
+        write!(f, "refused with {}, {}", self.number(), self.name())?;
+        match self {
+            Refusal::BadEntry(reason) => write!(f, ": {reason}"),
+            _ => Ok(()),
+        }
     }
 }
 
@@ -149,11 +253,11 @@ impl Flat {
     ///
     /// # Panics
     ///
-    /// On a kind or a number that the header does not have: the library is then not the one that this crate was written for.
+    /// On a kind, a number or a reason that the header does not have: the library is then not the one that this crate was written for.
     #[inline]
     pub(crate) fn answer(self) -> Result<Answer, Refusal> {
         match self.kind {
-            0 if (1..=17).contains(&self.refusal) => Err(Refusal::ALL[self.refusal as usize - 1]),
+            0 => Err(self.refusal()),
             1 => Ok(Answer::Done),
             2 => Ok(Answer::None),
             3 => Ok(Answer::Closed {
@@ -168,23 +272,58 @@ impl Flat {
         }
     }
 
+    /// The refusal with this number and reason.
+    #[inline]
+    fn refusal(self) -> Refusal {
+        let place = match (self.refusal, self.reason) {
+            (number @ 1..=4, 0) => number - 1,
+            (5, reason @ 1..=4) => 3 + reason,
+            (number @ 6..=17, 0) => number + 2,
+            _ => self.unknown(),
+        };
+        Refusal::ALL[place as usize]
+    }
+
     #[cold]
     fn unknown(self) -> ! {
         panic!(
-            "libskorbilek.a answers kind {}, refusal {}, which this crate does not know",
-            self.kind, self.refusal
+            "libskorbilek.a answers kind {}, refusal {}, reason {}, which this crate does not know",
+            self.kind, self.refusal, self.reason
         )
     }
 }
 
 #[cfg(test)]
 mod tests {
-    use super::Refusal;
+    use super::{Answer, Flat, Refusal};
+    use std::panic::catch_unwind;
+
+    fn refused(refusal: u64, reason: u64) -> Result<Answer, Refusal> {
+        let [kind, asid, gpa, value] = [0; 4];
+        #[rustfmt::skip]
+        let flat = Flat { refusal, kind, asid, gpa, value, reason };
+        flat.answer()
+    }
 
     #[test]
-    fn all_refusals_stand_at_their_numbers() {
-        for (index, refusal) in Refusal::ALL.into_iter().enumerate() {
-            assert_eq!(refusal.number(), index as u64 + 1);
+    fn each_refusal_is_told_by_its_number_and_reason() {
+        for refusal in Refusal::ALL {
+            let told = refused(refusal.number(), refusal.reason());
+            assert_eq!(told, Err(refusal));
+        }
+    }
+
+    #[test]
+    fn no_other_number_and_reason_are_a_refusal() {
+        for number in 0..=18 {
+            for reason in 0..=5 {
+                let is_one = match number {
+                    1..=4 | 6..=17 => reason == 0,
+                    _ => number == 5 && (1..=4).contains(&reason),
+                };
+                let told = catch_unwind(|| refused(number, reason));
+                assert_eq!(told.is_ok(), is_one, "{number}, {reason}");
+            }
         }
     }
 }

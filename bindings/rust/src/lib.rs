@@ -34,6 +34,25 @@
 //! for each word: the first takes 512 words, and the second hands back those of the frame, where they lie in memory. [`page_check`] makes
 //! the checks alone.
 //!
+//! [`Refusal::BadEntry`] carries a [`Reason`]: what is bad in the entry. No call gives it where the table started with zeros and nothing
+//! but these calls has changed table and memory. To find all bad entries of a table, ask [`page_check`] about each of its frames:
+//!
+//! ```
+//! use skorbilek::{page_check, Reason, Refusal, ENTRY_WORDS, FRAME_BYTES, HOST};
+//!
+//! // frame 1 is FIXED and not VALIDATED, and guest 7's page in frame 3 is at an address that is none
+//! let table = [0, 0, 0xa0007, 0x2000, 0x30000, 0, 0x60007, 0x50800];
+//! let memory = vec![0; 512 * 4];
+//! let mut bad = Vec::new();
+//! for frame in 0..table.len() / ENTRY_WORDS {
+//!     let hpa = FRAME_BYTES * frame as u64;
+//!     if let Err(Refusal::BadEntry(reason)) = page_check(&table, &memory, HOST, 0, hpa) {
+//!         bad.push((frame, reason));
+//!     }
+//! }
+//! assert_eq!(bad, [(1, Reason::Flags), (3, Reason::Address)]);
+//! ```
+//!
 //! A run of calls starts with a table of zeros and any memory, and nothing but these calls changes the two from then on: on that the
 //! promise that no counter goes back rests. `caller` is the number of the party for which a call is made.
 #![deny(unsafe_code)]
@@ -43,7 +62,7 @@ mod answer;
 mod calls;
 mod pages;
 
-pub use answer::{Answer, Refusal};
+pub use answer::{Answer, Reason, Refusal};
 pub use calls::{census, pfix, pmerge, punfix, punmerge, pvalidate, read, rmpupdate, write};
 pub use calls::{page_check, page_write};
 pub use pages::page_read;

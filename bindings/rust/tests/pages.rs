@@ -1,6 +1,6 @@
 //! Every refusal that whole shared pages can meet, and what they touch where they are accepted. The numbers are worked out by hand.
 
-use skorbilek::{page_check, page_read, page_write, Answer, Refusal, FRAME_WORDS};
+use skorbilek::{page_check, page_read, page_write, Answer, Reason, Refusal, FRAME_WORDS};
 
 /// Caller, gpa and hpa.
 type Arguments = [u64; 3];
@@ -45,7 +45,7 @@ impl Machine {
         page_write(&self.table, &mut self.memory, caller, gpa, hpa, &words)
     }
 
-    /// All three are refused with this number, and nothing changes.
+    /// All three are refused like this, and nothing changes.
     fn refuses(&mut self, arguments: Arguments, refusal: Refusal) {
         assert_eq!(self.check(arguments), Err(refusal), "{arguments:x?}");
         assert_eq!(self.read(arguments), Err(refusal), "{arguments:x?}");
@@ -155,9 +155,21 @@ fn frames_that_memory_lacks_are_4() {
 }
 
 #[test]
-fn an_entry_that_is_not_well_formed_is_5() {
-    Machine::new().refuses([0, 0, 0x6000], Refusal::BadEntry);
-    Machine::new().refuses([7, 0x50000, 0x6000], Refusal::BadEntry);
+fn an_entry_that_is_not_well_formed_is_5_with_its_reason() {
+    for (bad, reason) in [
+        ([0x100000, 0], Reason::SpareBits),
+        ([0x110000, 0x1000], Reason::SpareBits), // and PRIVATE of no guest
+        ([0x10200, 0x1000], Reason::Asid),
+        ([0x40007, 0], Reason::Asid), // and SHARED with a flag
+        ([0xa0007, 0x3000], Reason::Flags),
+        ([0xa0007, 0x8000], Reason::Flags), // and a leaf that is not below N
+        ([0xe0007, 0x8000], Reason::Address),
+    ] {
+        let mut machine = Machine::new();
+        machine.table[12..14].copy_from_slice(&bad);
+        machine.refuses([0, 0, 0x6000], Refusal::BadEntry(reason));
+        machine.refuses([7, 0x50000, 0x6000], Refusal::BadEntry(reason));
+    }
 }
 
 #[test]

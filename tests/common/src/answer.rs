@@ -5,7 +5,10 @@ use skorbilek::{Answer, Refusal};
 /// An answer of the bindings as the second program names it.
 pub fn translated(answer: Result<Answer, Refusal>) -> second::Answer {
     match answer {
-        Err(refusal) => second::Answer::Refused(refusal.number() as u8),
+        Err(refusal) => second::Answer::Refused {
+            number: refusal.number() as u8,
+            reason: refusal.reason() as u8,
+        },
         Ok(Answer::Done) => second::Answer::Done,
         Ok(Answer::None) => second::Answer::None,
         Ok(Answer::Closed { asid, gpa }) => second::Answer::Closed { asid, gpa },

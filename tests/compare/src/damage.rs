@@ -44,6 +44,60 @@ pub fn half(random: &mut Random, state: &mut State) {
     }
 }
 
+/// Most entries break one of their four rules or two, each rule as often as any other; what else they say stays.
+pub fn rules(random: &mut Random, state: &mut State) {
+    for frame in 0..state.n() {
+        if random.chance(80) {
+            for _ in 0..random.pick(&[1, 1, 2]) {
+                let broken = random.pick(&BREAKS)(random, state, state.entry(frame));
+                state.put(frame, broken);
+            }
+        }
+    }
+}
+
+/// How an entry is made to break a rule.
+type Break = fn(&mut Random, &State, Entry) -> Entry;
+
+/// By the order of the reasons.
+const BREAKS: [Break; 4] = [break_spare_bits, break_asid, break_flags, break_address];
+
+fn break_spare_bits(random: &mut Random, _: &State, entry: Entry) -> Entry {
+    let unused = entry.unused | 1 << random.below(UNUSED_BITS);
+    Entry { unused, ..entry }
+}
+
+fn break_asid(random: &mut Random, _: &State, entry: Entry) -> Entry {
+    let asid = match entry.kind {
+        SHARED | LEAF => random.pick(&[1, 7, 511, 512]),
+        _ => random.pick(&[0, 0, 512, 0xffff]),
+    };
+    Entry { asid, ..entry }
+}
+
+fn break_flags(random: &mut Random, _: &State, entry: Entry) -> Entry {
+    let (validated, fixed) = match entry.kind {
+        SHARED | LEAF => random.pick(&[(true, false), (false, true), (true, true)]),
+        PRIVATE => (entry.validated, true),
+        _ => (false, true),
+    };
+    Entry {
+        validated,
+        fixed,
+        ..entry
+    }
+}
+
+fn break_address(random: &mut Random, state: &State, entry: Entry) -> Entry {
+    let below_n = address(random.index(state.n()));
+    let address = match (entry.kind, entry.fixed) {
+        (SHARED | LEAF, _) => random.pick(&[FRAME_BYTES, below_n + 1, ADDRESS_END]),
+        (_, true) => random.pick(&[address(state.n()), below_n + 1, ADDRESS_END]),
+        (_, false) => random.pick(&[below_n + 1, below_n + 0x800, ADDRESS_END, 1 << 63]),
+    };
+    Entry { address, ..entry }
+}
+
 /// Every entry becomes random words, and so does the memory.
 pub fn all(random: &mut Random, state: &mut State) {
     let fields = random.chance(60);

@@ -63,7 +63,7 @@ fn run(
         let moved = moved(&request, &history.pair.states[1]);
         let step = history.step(&request);
         if let Ok(outcome) = &step {
-            table.count(&request, outcome);
+            table.count(&request, outcome, &history.pair.states[1]);
             counts.note(&request, outcome, moved, &mut past);
         }
         requests.push(request);
@@ -124,7 +124,7 @@ impl<'a> History<'a> {
         self.last = Some((request.clone(), outcome.clone()));
         self.made += 1;
         self.claim(noted)?;
-        if let Outcome::Answered(Answer::Refused(number @ (5 | 12))) = outcome {
+        if let Some((number @ (5 | 12), _)) = outcome.refusal() {
             self.claim(Err(format!("a history never meets {number}")))?;
         }
         if self.made.is_multiple_of(PLACES_EVERY) {
@@ -157,7 +157,9 @@ fn reply<'a>(request: &Request, outcome: &'a Outcome) -> Option<Reply<'a>> {
     match (request, outcome) {
         (_, Outcome::Panicked) => None,
         (_, Outcome::Handed(part)) => Some(Reply::Page(&part.words)),
-        (Request::PageRead { .. }, Outcome::Answered(Answer::Refused(_))) => Some(Reply::Page(&[])),
+        (Request::PageRead { .. }, Outcome::Answered(Answer::Refused { .. })) => {
+            Some(Reply::Page(&[]))
+        }
         (_, &Outcome::Answered(answer)) => Some(Reply::Answer(answer)),
     }
 }

@@ -15,6 +15,7 @@ mod pages;
 pub mod pair;
 pub mod program;
 pub mod random;
+mod reasons;
 pub mod report;
 pub mod requests;
 pub mod run;

@@ -14,7 +14,7 @@ use crate::state::State;
 pub trait Monitor {
     fn name(&self) -> &str;
 
-    /// Replies. A reading of a page that is refused replies the number, which is what the check of it answers.
+    /// Replies. A reading of a page that is refused replies number and reason, which is what the check of it answers.
     fn reply<'m>(&self, request: &Request, table: &mut [u64], memory: &'m mut [u64]) -> Reply<'m>;
 }
 
@@ -30,6 +30,16 @@ pub enum Outcome {
     Answered(Answer),
     Handed(Part),
     Panicked,
+}
+
+impl Outcome {
+    /// Number and reason, if it is a refusal.
+    pub fn refusal(&self) -> Option<(u8, u8)> {
+        match *self {
+            Self::Answered(Answer::Refused { number, reason }) => Some((number, reason)),
+            _ => None,
+        }
+    }
 }
 
 /// What a reading of a page handed back.

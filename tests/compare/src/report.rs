@@ -129,7 +129,8 @@ fn handed(part: &Part) -> String {
 
 fn answered(answer: Answer) -> String {
     match answer {
-        Answer::Refused(number) => format!("refused with {number}"),
+        Answer::Refused { number, reason: 0 } => format!("refused with {number}"),
+        Answer::Refused { number, reason } => format!("refused with {number}, reason {reason}"),
         Answer::Closed { asid, gpa } => format!("closed {asid:x} {gpa:x}"),
         Answer::Word(word) => format!("word {word:x}"),
         Answer::Count(count) => format!("count {count:x}"),

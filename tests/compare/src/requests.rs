@@ -2,6 +2,7 @@
 
 use std::fmt;
 
+use common::layout::address;
 use second::Request;
 
 use crate::arguments::{self, Kind};
@@ -16,10 +17,26 @@ const PAGES: u64 = 10;
 /// How many words of a page are printed.
 const PRINTED: usize = 8;
 
+/// The letters and names of all requests: the nine calls, as scripts have them, and whole pages, which scripts do not know.
+pub const NAMES: [(char, &str); 12] = [
+    ('U', "RMPUPDATE"),
+    ('V', "PVALIDATE"),
+    ('F', "PFIX"),
+    ('M', "PMERGE"),
+    ('D', "PUNMERGE"),
+    ('X', "PUNFIX"),
+    ('R', "READ"),
+    ('W', "WRITE"),
+    ('C', "CENSUS"),
+    ('r', "page_read"),
+    ('w', "page_write"),
+    ('c', "page_check"),
+];
+
 /// A request as it is printed.
 pub struct Shown<'a>(pub &'a Request);
 
-/// The letter of a call, as scripts have it; whole pages have small letters, which scripts do not know.
+/// The letter of a request.
 pub fn letter(request: &Request) -> char {
     match request {
         Request::Call(call) => call.letter(),
@@ -66,6 +83,17 @@ pub fn any(random: &mut Random, state: &State) -> Request {
         true => pages::any(random, state),
         false => Request::Call(arguments::any(random, state)),
     }
+}
+
+/// A call of the host's that names two frames, any of the table, and has nothing else wrong with it.
+pub fn of_two_frames(random: &mut Random, state: &State) -> Request {
+    let mut frame = || address(random.index(state.n().max(1)));
+    let (hpa1, hpa2) = (frame(), frame());
+    Request::Call(match random.below(3) {
+        0 => arguments::call('F', &[0, hpa1, hpa2]),
+        1 => arguments::call('M', &[0, hpa1, hpa2]),
+        _ => arguments::call('D', &[0, hpa1, hpa2, random.pick(&[1, 2, 7, 511])]),
+    })
 }
 
 /// A request for this state, as meant; or, in so many cases of a hundred, with numbers changed.

@@ -44,10 +44,11 @@ pub fn run(programs: [&Program; 2], monitors: [&dyn Monitor; 2], seed: u64, call
     for fault in &faults {
         writeln!(printed, "{fault}").expect("a string takes all");
     }
-    let (made, differences, cells) = (table.calls(), found.len(), table.reached());
+    let (made, differences) = (table.calls(), found.len());
+    let (cells, reasons) = (table.reached(), table.reached_reasons());
     writeln!(
         printed,
-        "{made} calls, seed {seed}, {differences} differences, {cells} cells reached"
+        "{made} calls, seed {seed}, {differences} differences, {cells} cells and {reasons} of reasons reached"
     )
     .expect("a string takes all");
     Run {

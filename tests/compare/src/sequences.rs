@@ -49,13 +49,15 @@ fn run(
     let mut pair = Pair::new(monitors, &start);
     let mut requests = Vec::new();
     for _ in 0..length {
-        let request = match random.chance(12) {
-            true => requests::any(random, &pair.states[1]),
-            false => requests::guided(random, &pair.states[1], 40),
+        let state = &pair.states[1];
+        let request = match random.below(100) {
+            0..=11 => requests::any(random, state),
+            12..=20 => requests::of_two_frames(random, state),
+            _ => requests::guided(random, state, 40),
         };
         let step = pair.step(&request);
         if let Ok(outcome) = &step {
-            table.count(&request, outcome);
+            table.count(&request, outcome, &pair.states[1]);
         }
         requests.push(request);
         if let Err(finding) = step {

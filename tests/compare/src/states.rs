@@ -29,8 +29,9 @@ pub fn small(random: &mut Random) -> State {
     let frames: Vec<usize> = (0..n).collect();
     populate(random, &mut state, &frames);
     match random.below(100) {
-        0..=54 => {}
-        55..=84 => {
+        0..=47 => {}
+        48..=57 => damage::rules(random, &mut state),
+        58..=84 => {
             for _ in 0..random.pick(&[1, 1, 2, 4]) {
                 damage::one(random, &mut state);
             }

@@ -1,14 +1,16 @@
-//! How often each call was accepted and refused with each number, and whether that is as it can be.
+//! How often each call was accepted and refused with each number, and with 5 for each reason, and whether that is as it can be.
 
 use std::fmt;
 
-use second::{Answer, Request};
+use second::Request;
 
 use crate::arguments::LETTERS;
 use crate::monitor::Outcome;
-use crate::requests;
+use crate::reasons::Reasons;
+use crate::requests::{self, NAMES};
+use crate::state::State;
 
-/// Which calls can be accepted, and be refused with 1 to 17: docs/CALLS.md, 'Refusals', the column 'Can be given by'. The small letters
+/// Which calls can be accepted, and be refused with 1 to 17: docs/NAMES.md, 'Refusals', the column 'Can be given by'. The small letters
 /// are whole pages, whose access is SHARED: any party may make it, and nothing is asked of a page of a guest.
 pub const REACHABLE: [&str; 18] = [
     "UVFMDXRWCrwc", // accepted
@@ -31,25 +33,11 @@ pub const REACHABLE: [&str; 18] = [
     "X",            // 17, STILL SHARED
 ];
 
-const ROWS: [(char, &str); 12] = [
-    ('U', "RMPUPDATE"),
-    ('V', "PVALIDATE"),
-    ('F', "PFIX"),
-    ('M', "PMERGE"),
-    ('D', "PUNMERGE"),
-    ('X', "PUNFIX"),
-    ('R', "READ"),
-    ('W', "WRITE"),
-    ('C', "CENSUS"),
-    ('r', "page_read"),
-    ('w', "page_write"),
-    ('c', "page_check"),
-];
-
 /// Counts by call and column: accepted, then the refusals by number. The last column is for numbers that no refusal has.
 #[derive(Default)]
 pub struct Table {
-    counts: [[u64; 19]; ROWS.len()],
+    counts: [[u64; 19]; NAMES.len()],
+    reasons: Reasons,
 }
 
 impl Table {
@@ -57,14 +45,17 @@ impl Table {
         Self::default()
     }
 
-    /// Counts what both monitors replied.
-    pub fn count(&mut self, request: &Request, outcome: &Outcome) {
-        let column = match *outcome {
-            Outcome::Answered(Answer::Refused(number)) => usize::from(number).clamp(1, 18),
-            Outcome::Answered(_) | Outcome::Handed(_) => 0,
-            Outcome::Panicked => 18,
+    /// Counts what both monitors replied. A refusal left this state as it was.
+    pub fn count(&mut self, request: &Request, outcome: &Outcome, state: &State) {
+        let column = match (outcome, outcome.refusal()) {
+            (Outcome::Panicked, _) => 18,
+            (_, Some((number, _))) => usize::from(number).clamp(1, 18),
+            (_, None) => 0,
         };
         self.add(requests::letter(request), column);
+        if let Some(refusal) = outcome.refusal() {
+            self.reasons.count(request, refusal, state);
+        }
     }
 
     /// Counts a line that both script programs printed; whether it is an answer.
@@ -85,7 +76,7 @@ impl Table {
     }
 
     fn add(&mut self, letter: char, column: usize) -> bool {
-        let row = ROWS.iter().position(|&(call, _)| call == letter);
+        let row = NAMES.iter().position(|&(call, _)| call == letter);
         row.map(|row| self.counts[row][column] += 1).is_some()
     }
 
@@ -103,10 +94,15 @@ impl Table {
             .count()
     }
 
+    /// The same, of the tables of reasons.
+    pub fn reached_reasons(&self) -> usize {
+        self.reasons.reached()
+    }
+
     /// The cells that are empty and must not be, and those that must be empty and are not.
     pub fn faults(&self) -> Vec<String> {
-        let mut faults = Vec::new();
-        for ((letter, name), counts) in ROWS.iter().zip(&self.counts) {
+        let mut faults = self.reasons.faults();
+        for ((letter, name), counts) in NAMES.iter().zip(&self.counts) {
             for (column, &count) in counts.iter().enumerate() {
                 let cell = match column {
                     0 => format!("{name} accepted"),
@@ -137,7 +133,7 @@ impl fmt::Display for Table {
             write!(f, " {number:>7}")?;
         }
         writeln!(f)?;
-        for ((letter, name), counts) in ROWS.iter().zip(&self.counts) {
+        for ((letter, name), counts) in NAMES.iter().zip(&self.counts) {
             write!(f, "{name:10}")?;
             for (column, count) in counts.iter().enumerate().take(18) {
                 let width = if column == 0 { 8 } else { 7 };
@@ -148,6 +144,6 @@ impl fmt::Display for Table {
             }
             writeln!(f)?;
         }
-        Ok(())
+        write!(f, "{}", self.reasons)
     }
 }

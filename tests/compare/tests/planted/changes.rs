@@ -34,7 +34,9 @@ pub const FAULTS: [Planted; 16] = [
         name: "PMERGE writes the leaf word before 16 is checked",
         make: |call, table, memory| {
             let answer = call.make(table, memory);
-            if let (Answer::Refused(16), Call::Pmerge { hpa1, hpa2, .. }) = (answer, *call) {
+            if let (Answer::Refused { number: 16, .. }, Call::Pmerge { hpa1, hpa2, .. }) =
+                (answer, *call)
+            {
                 let merged = entry(table, hpa2);
                 memory[leaf_word(table, hpa1, merged.asid)] = present(merged.address);
             }
@@ -190,7 +192,9 @@ pub const FAULTS: [Planted; 16] = [
     Planted {
         name: "a READ that panics",
         make: |call, table, memory| match (call.make(table, memory), *call) {
-            (Answer::Refused(4), Call::Read { hpa, .. }) => Answer::Word(memory[words(hpa)][0]),
+            (Answer::Refused { number: 4, .. }, Call::Read { hpa, .. }) => {
+                Answer::Word(memory[words(hpa)][0])
+            }
             (answer, _) => answer,
         },
     },

@@ -8,9 +8,10 @@ use compare::report::Report;
 use compare::run::{CALLS, SEED};
 use compare::sequences;
 use compare::table::Table;
-use second::{Answer, Reply, Request};
+use second::{Reply, Request};
 
-use crate::{changes, pages, refusals};
+use crate::monitors::refused;
+use crate::{changes, pages, reasons, refusals};
 
 /// What is found when the fault stands on this side.
 fn found(fault: &dyn Monitor, side: usize) -> Option<Box<Report>> {
@@ -49,6 +50,12 @@ fn faults_in_refusals_are_found() {
 }
 
 #[test]
+fn faults_in_reasons_are_found() {
+    all_are_found(&reasons::FAULTS);
+    all_are_found(&reasons::PAGE_FAULTS);
+}
+
+#[test]
 fn faults_in_changes_are_found() {
     all_are_found(&changes::FAULTS);
 }
@@ -69,7 +76,7 @@ impl Monitor for Once {
     fn reply<'m>(&self, request: &Request, table: &mut [u64], memory: &'m mut [u64]) -> Reply<'m> {
         self.0.set(self.0.get() + 1);
         match Second.reply(request, table, memory) {
-            _ if self.0.get() == 1000 => Reply::Answer(Answer::Refused(1)),
+            _ if self.0.get() == 1000 => Reply::Answer(refused(1)),
             reply => reply,
         }
     }
@@ -128,6 +135,20 @@ fn a_report_says_what_a_page_was() {
     let lines = [
         "calls:\n    page_write 0 0 0, 512 words, [511] = ",
         "    after it m[512*0 + 511]: second ",
+    ];
+    assert!(lines.iter().all(|line| report.contains(line)), "{report}");
+}
+
+/// And where it is about a reason.
+#[test]
+fn a_report_says_what_the_reason_was() {
+    let (name, mut faults) = ("CENSUS drops the reason", reasons::FAULTS.iter());
+    let fault = faults.find(|fault| fault.name == name);
+    let report = found(fault.expect("a fault of this name"), 0);
+    let report = report.expect("the fault is found").to_string();
+    let lines = [
+        "drops the reason: refused with 5\n",
+        "second: refused with 5, reason ",
     ];
     assert!(lines.iter().all(|line| report.contains(line)), "{report}");
 }

@@ -10,8 +10,9 @@ use compare::table::Table;
 use second::{Answer, Call};
 
 use crate::changes;
-use crate::monitors::{entry, leaf_word, words, Planted};
+use crate::monitors::{entry, leaf_word, refused, words, Planted};
 use crate::pages::{self, Fault, PlantedPage};
+use crate::reasons;
 
 /// What is found in as many requests as histories have in a run.
 fn found(fault: &dyn Monitor) -> Option<Box<Report>> {
@@ -40,7 +41,7 @@ fn an_old_copy_that_a_guest_left_can_be_read() {
     let fault = Planted {
         name: "READ of a fixed page answers where the guest has no place (13)",
         make: |call, table, memory| match (call.make(table, memory), *call) {
-            (Answer::Refused(13), Call::Read { hpa, index, .. }) => {
+            (Answer::Refused { number: 13, .. }, Call::Read { hpa, index, .. }) => {
                 Answer::Word(memory[words(hpa)][index as usize])
             }
             (answer, _) => answer,
@@ -65,12 +66,12 @@ fn a_counter_that_goes_back_is_found() {
                     Answer::Done
                 }
                 #[rustfmt::skip]
-                (Answer::Refused(13), Call::Read { caller, gpa, hpa, index, .. }) => {
+                (Answer::Refused { number: 13, .. }, Call::Read { caller, gpa, hpa, index, .. }) => {
                     match memory[leaf_word(table, hpa, caller)] {
                         word if word != 0 && word == gpa => {
                             Answer::Word(memory[words(hpa)][index as usize])
                         }
-                        _ => Answer::Refused(13),
+                        _ => refused(13),
                     }
                 }
                 (answer, _) => answer,
@@ -85,7 +86,7 @@ fn a_page_that_is_not_open_can_be_read() {
     let fault = Planted {
         name: "READ does not check VALIDATED (9)",
         make: |call, table, memory| match (call.make(table, memory), *call) {
-            (Answer::Refused(9), Call::Read { hpa, index, .. }) => {
+            (Answer::Refused { number: 9, .. }, Call::Read { hpa, index, .. }) => {
                 Answer::Word(memory[words(hpa)][index as usize])
             }
             (answer, _) => answer,
@@ -100,7 +101,7 @@ fn an_owner_that_writes_to_a_merged_page() {
         name: "WRITE lets the owner of a fixed page write to it",
         make: |call, table, memory| match (call.make(table, memory), *call) {
             (
-                Answer::Refused(10),
+                Answer::Refused { number: 10, .. },
                 Call::Write {
                     caller,
                     gpa,
@@ -115,7 +116,7 @@ fn an_owner_that_writes_to_a_merged_page() {
                     memory[words(hpa)][index as usize] = value;
                     return Answer::Done;
                 }
-                Answer::Refused(10)
+                refused(10)
             }
             (answer, _) => answer,
         },
@@ -173,7 +174,7 @@ fn a_history_that_meets_5_or_12() {
     let fault = Planted {
         name: "PFIX of a fixed page gives 12",
         make: |call, table, memory| match (call.make(table, memory), call) {
-            (Answer::Refused(10), Call::Pfix { .. }) => Answer::Refused(12),
+            (Answer::Refused { number: 10, .. }, Call::Pfix { .. }) => refused(12),
             (answer, _) => answer,
         },
     };
@@ -186,7 +187,7 @@ fn a_guests_page_that_is_written_whole() {
     let fault = PlantedPage {
         name: "page_write writes to a MERGEABLE page (6 is skipped)",
         fault: Fault::Write(|page| match (page.write(), page.kind()) {
-            (Answer::Refused(6), Some(MERGEABLE)) => {
+            (Answer::Refused { number: 6, .. }, Some(MERGEABLE)) => {
                 page.overwrite();
                 Answer::Done
             }
@@ -201,7 +202,7 @@ fn a_leaf_that_is_written_whole() {
     let fault = PlantedPage {
         name: "page_write writes to a LEAF (6 is skipped)",
         fault: Fault::Write(|page| match (page.write(), page.kind()) {
-            (Answer::Refused(6), Some(LEAF)) => {
+            (Answer::Refused { number: 6, .. }, Some(LEAF)) => {
                 page.overwrite();
                 Answer::Done
             }
@@ -213,7 +214,15 @@ fn a_leaf_that_is_written_whole() {
     assert!(report.finding.claim.is_some(), "{report}");
 }
 
-/// Which replies a page can have at all, the ledger knows too.
+/// Which answers a call can have at all, the ledger knows too.
+#[test]
+fn a_reason_with_another_refusal() {
+    let name = "WRITE from N on is refused with 6 for a reason";
+    let fault = reasons::FAULTS.iter().find(|fault| fault.name == name);
+    is_found(fault.expect("a fault of this name"), "no answer to this");
+}
+
+/// And which replies a page can have.
 #[test]
 fn replies_that_no_page_can_have() {
     for name in [

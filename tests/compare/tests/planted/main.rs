@@ -7,6 +7,7 @@ mod found;
 mod ledger;
 mod monitors;
 mod pages;
+mod reasons;
 mod refusals;
 mod scripts;
 mod tables;

@@ -27,6 +27,16 @@ impl Monitor for Planted {
     }
 }
 
+/// A refusal that is not 5: it has no reason.
+pub fn refused(number: u8) -> Answer {
+    Answer::Refused { number, reason: 0 }
+}
+
+/// A refusal with 5, for this reason.
+pub fn bad(reason: u8) -> Answer {
+    Answer::Refused { number: 5, reason }
+}
+
 /// The entry of the frame at an address.
 pub fn entry(table: &[u64], hpa: u64) -> Entry {
     Entry::at(table, frame_of(hpa))
@@ -66,7 +76,7 @@ pub fn accepted(
     let (mut new_table, mut new_memory) = (table.to_vec(), memory.to_vec());
     change(&mut new_table, &mut new_memory);
     let answer = call.make(&mut new_table, &mut new_memory);
-    if matches!(answer, Answer::Refused(_)) {
+    if matches!(answer, Answer::Refused { .. }) {
         return None;
     }
     table.copy_from_slice(&new_table);

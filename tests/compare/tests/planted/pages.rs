@@ -4,7 +4,7 @@ use common::layout::{self, frame_at, frame_of, FRAME_WORDS, LEAF};
 use compare::monitor::{Monitor, Second};
 use second::{page_check, page_read, page_write, Answer, Reply, Request};
 
-use crate::monitors::{entry, words};
+use crate::monitors::{entry, refused, words};
 
 /// A monitor by what it makes of one of the three calls. For all else it is the second program.
 pub struct PlantedPage {
@@ -123,7 +123,9 @@ pub const FAULTS: [PlantedPage; 13] = [
         name: "page_read hands back a LEAF (6 is skipped)",
         fault: Fault::Read(
             |numbers, table, memory| match read(numbers, table, memory) {
-                Reply::Answer(Answer::Refused(6)) if kind(numbers, table) == Some(LEAF) => {
+                Reply::Answer(Answer::Refused { number: 6, .. })
+                    if kind(numbers, table) == Some(LEAF) =>
+                {
                     Reply::Page(&memory[words(numbers[2])])
                 }
                 reply => reply,
@@ -164,7 +166,7 @@ pub const FAULTS: [PlantedPage; 13] = [
         name: "page_write writes where it is refused with 6",
         fault: Fault::Write(|page| {
             let answer = page.write();
-            if answer == Answer::Refused(6) {
+            if answer == refused(6) {
                 page.overwrite();
             }
             answer
@@ -190,7 +192,7 @@ pub const FAULTS: [PlantedPage; 13] = [
     PlantedPage {
         name: "page_write checks the run after 4",
         fault: Fault::Write(|page| match page.check() {
-            Answer::Refused(4) => Answer::Refused(4),
+            answer @ Answer::Refused { number: 4, .. } => answer,
             _ => page.write(),
         }),
     },
@@ -198,13 +200,13 @@ pub const FAULTS: [PlantedPage; 13] = [
         name: "page_write checks the run before 1",
         fault: Fault::Write(|page| match page.given.len() {
             FRAME_WORDS => page.write(),
-            _ => Answer::Refused(2),
+            _ => refused(2),
         }),
     },
     PlantedPage {
         name: "page_write needs an entry (4 from N on)",
         fault: Fault::Write(|page| match (page.check(), page.kind()) {
-            (Answer::Done, None) if page.given.len() == FRAME_WORDS => Answer::Refused(4),
+            (Answer::Done, None) if page.given.len() == FRAME_WORDS => refused(4),
             _ => page.write(),
         }),
     },
@@ -218,8 +220,8 @@ pub const FAULTS: [PlantedPage; 13] = [
         name: "page_check is the host's alone (3)",
         fault: Fault::Check(
             |numbers, table, memory| match check(numbers, table, memory) {
-                Answer::Refused(number @ 1..=2) => Answer::Refused(number),
-                _ if numbers[0] != 0 => Answer::Refused(3),
+                answer @ Answer::Refused { number: 1..=2, .. } => answer,
+                _ if numbers[0] != 0 => refused(3),
                 answer => answer,
             },
         ),

@@ -5,7 +5,7 @@ use common::layout::{
 };
 use second::{Answer, Call};
 
-use crate::monitors::{accepted, clear, entries, entry, leaf_word, words, Planted};
+use crate::monitors::{accepted, clear, entries, entry, leaf_word, refused, words, Planted};
 
 /// Whether an entry is that of a fixed page, but for what its addresses are.
 fn is_fixed_page(entry: Entry) -> bool {
@@ -16,10 +16,9 @@ pub const FAULTS: [Planted; 26] = [
     Planted {
         name: "PMERGE overwrites a leaf word (14 is skipped)",
         make: |call, table, memory| match (call.make(table, memory), *call) {
-            (Answer::Refused(14), Call::Pmerge { hpa1, hpa2, .. }) => {
+            (Answer::Refused { number: 14, .. }, Call::Pmerge { hpa1, hpa2, .. }) => {
                 let word = leaf_word(table, hpa1, entry(table, hpa2).asid);
-                accepted(call, table, memory, |_, memory| memory[word] = 0)
-                    .unwrap_or(Answer::Refused(16))
+                accepted(call, table, memory, |_, memory| memory[word] = 0).unwrap_or(refused(16))
             }
             (answer, _) => answer,
         },
@@ -27,7 +26,7 @@ pub const FAULTS: [Planted; 26] = [
     Planted {
         name: "PFIX uses a leaf twice (15 is skipped)",
         make: |call, table, memory| match (call.make(table, memory), *call) {
-            (Answer::Refused(15), Call::Pfix { leaf, .. }) => {
+            (Answer::Refused { number: 15, .. }, Call::Pfix { leaf, .. }) => {
                 let before = table.to_vec();
                 let has_leaf = |entry: Entry| entry.fixed && entry.address == leaf;
                 let answer = accepted(call, table, memory, |table, _| clear(table, has_leaf));
@@ -35,7 +34,7 @@ pub const FAULTS: [Planted; 26] = [
                     .enumerate()
                     .filter(|&(_, entry)| has_leaf(entry));
                 had_leaf.for_each(|(frame, entry)| entry.put(table, frame));
-                answer.unwrap_or(Answer::Refused(15))
+                answer.unwrap_or(refused(15))
             }
             (answer, _) => answer,
         },
@@ -44,7 +43,7 @@ pub const FAULTS: [Planted; 26] = [
         name: "READ does not check the owner (7)",
         make: |call, table, memory| match (call.make(table, memory), *call) {
             #[rustfmt::skip]
-            (Answer::Refused(7), Call::Read { gpa, hpa, gtype, ntype, index, .. }) => {
+            (Answer::Refused { number: 7, .. }, Call::Read { gpa, hpa, gtype, ntype, index, .. }) => {
                 let caller = entry(table, hpa).asid;
                 Call::Read { caller, gpa, hpa, gtype, ntype, index }.make(table, memory)
             }
@@ -54,7 +53,9 @@ pub const FAULTS: [Planted; 26] = [
     Planted {
         name: "READ of a fixed page does not check the address (8)",
         make: |call, table, memory| match (call.make(table, memory), *call) {
-            (Answer::Refused(8), Call::Read { hpa, index, .. }) if entry(table, hpa).fixed => {
+            (Answer::Refused { number: 8, .. }, Call::Read { hpa, index, .. })
+                if entry(table, hpa).fixed =>
+            {
                 Answer::Word(memory[words(hpa)][index as usize])
             }
             (answer, _) => answer,
@@ -64,14 +65,14 @@ pub const FAULTS: [Planted; 26] = [
         name: "an access to an unfixed page does not check the address (8)",
         make: |call, table, memory| match (call.make(table, memory), *call) {
             #[rustfmt::skip]
-            (Answer::Refused(8), Call::Read { caller, hpa, gtype, ntype, index, .. })
+            (Answer::Refused { number: 8, .. }, Call::Read { caller, hpa, gtype, ntype, index, .. })
                 if !entry(table, hpa).fixed =>
             {
                 let gpa = entry(table, hpa).address;
                 Call::Read { caller, gpa, hpa, gtype, ntype, index }.make(table, memory)
             }
             #[rustfmt::skip]
-            (Answer::Refused(8), Call::Write { caller, hpa, gtype, ntype, index, value, .. }) => {
+            (Answer::Refused { number: 8, .. }, Call::Write { caller, hpa, gtype, ntype, index, value, .. }) => {
                 let gpa = entry(table, hpa).address;
                 Call::Write { caller, gpa, hpa, gtype, ntype, index, value }.make(table, memory)
             }
@@ -82,7 +83,7 @@ pub const FAULTS: [Planted; 26] = [
         name: "PVALIDATE does not check the address (8)",
         make: |call, table, memory| match (call.make(table, memory), *call) {
             #[rustfmt::skip]
-            (Answer::Refused(8), Call::Pvalidate { caller, hpa, kind, .. }) => {
+            (Answer::Refused { number: 8, .. }, Call::Pvalidate { caller, hpa, kind, .. }) => {
                 let gpa = entry(table, hpa).address;
                 Call::Pvalidate { caller, gpa, hpa, kind }.make(table, memory)
             }
@@ -92,7 +93,7 @@ pub const FAULTS: [Planted; 26] = [
     Planted {
         name: "PFIX gives a fixed page another leaf (10 is skipped)",
         make: |call, table, memory| match (call.make(table, memory), *call) {
-            (Answer::Refused(10), Call::Pfix { hpa, leaf, .. }) => {
+            (Answer::Refused { number: 10, .. }, Call::Pfix { hpa, leaf, .. }) => {
                 let page = entry(table, hpa);
                 let unfixed = Entry {
                     fixed: false,
@@ -104,7 +105,7 @@ pub const FAULTS: [Planted; 26] = [
                         unfixed.put(table, frame_of(hpa));
                     }
                 });
-                answer.unwrap_or(Answer::Refused(15))
+                answer.unwrap_or(refused(15))
             }
             (answer, _) => answer,
         },
@@ -120,17 +121,17 @@ pub const FAULTS: [Planted; 26] = [
                     gtype: 2,
                     ..
                 },
-            ) if entry(table, hpa).asid != caller => Answer::Refused(7),
+            ) if entry(table, hpa).asid != caller => refused(7),
             (answer, _) => answer,
         },
     },
     Planted {
         name: "PVALIDATE checks 8 before 10",
         make: |call, table, memory| match (call.make(table, memory), *call) {
-            (Answer::Refused(10), Call::Pvalidate { gpa, hpa, .. })
+            (Answer::Refused { number: 10, .. }, Call::Pvalidate { gpa, hpa, .. })
                 if entry(table, hpa).address != gpa =>
             {
-                Answer::Refused(8)
+                refused(8)
             }
             (answer, _) => answer,
         },
@@ -138,8 +139,10 @@ pub const FAULTS: [Planted; 26] = [
     Planted {
         name: "PVALIDATE checks 10 before 7",
         make: |call, table, memory| match (call.make(table, memory), *call) {
-            (Answer::Refused(7), Call::Pvalidate { hpa, .. }) if entry(table, hpa).fixed => {
-                Answer::Refused(10)
+            (Answer::Refused { number: 7, .. }, Call::Pvalidate { hpa, .. })
+                if entry(table, hpa).fixed =>
+            {
+                refused(10)
             }
             (answer, _) => answer,
         },
@@ -147,8 +150,10 @@ pub const FAULTS: [Planted; 26] = [
     Planted {
         name: "PUNFIX checks 4 before 3",
         make: |call, table, memory| match (call.make(table, memory), *call) {
-            (Answer::Refused(3), Call::Punfix { hpa, .. }) if frame_of(hpa) >= layout::n(table) => {
-                Answer::Refused(4)
+            (Answer::Refused { number: 3, .. }, Call::Punfix { hpa, .. })
+                if frame_of(hpa) >= layout::n(table) =>
+            {
+                refused(4)
             }
             (answer, _) => answer,
         },
@@ -156,10 +161,10 @@ pub const FAULTS: [Planted; 26] = [
     Planted {
         name: "PMERGE checks 16 before 14",
         make: |call, table, memory| match (call.make(table, memory), *call) {
-            (Answer::Refused(14), Call::Pmerge { hpa1, hpa2, .. })
+            (Answer::Refused { number: 14, .. }, Call::Pmerge { hpa1, hpa2, .. })
                 if memory[words(hpa1)] != memory[words(hpa2)] =>
             {
-                Answer::Refused(16)
+                refused(16)
             }
             (answer, _) => answer,
         },
@@ -167,11 +172,11 @@ pub const FAULTS: [Planted; 26] = [
     Planted {
         name: "PMERGE compares all words but the last",
         make: |call, table, memory| match (call.make(table, memory), *call) {
-            (Answer::Refused(16), Call::Pmerge { hpa1, hpa2, .. }) => {
+            (Answer::Refused { number: 16, .. }, Call::Pmerge { hpa1, hpa2, .. }) => {
                 let last = memory[words(hpa1)][511];
                 let place = word_at(frame_of(hpa2), 511);
                 accepted(call, table, memory, |_, memory| memory[place] = last)
-                    .unwrap_or(Answer::Refused(16))
+                    .unwrap_or(refused(16))
             }
             (answer, _) => answer,
         },
@@ -179,7 +184,7 @@ pub const FAULTS: [Planted; 26] = [
     Planted {
         name: "PUNFIX passes over misshapen words (17)",
         make: |call, table, memory| match (call.make(table, memory), *call) {
-            (Answer::Refused(17), Call::Punfix { hpa, .. }) => {
+            (Answer::Refused { number: 17, .. }, Call::Punfix { hpa, .. }) => {
                 let leaf = words(entry(table, hpa).address);
                 accepted(call, table, memory, |_, memory| {
                     let is_address =
@@ -190,7 +195,7 @@ pub const FAULTS: [Planted; 26] = [
                         .filter(misshapen)
                         .for_each(|word| *word = 0);
                 })
-                .unwrap_or(Answer::Refused(17))
+                .unwrap_or(refused(17))
             }
             (answer, _) => answer,
         },
@@ -201,7 +206,7 @@ pub const FAULTS: [Planted; 26] = [
             Call::Write { hpa, .. } if frame_of(hpa) >= layout::n(table) => {
                 let mut copy = memory.to_vec();
                 match call.make(table, &mut copy) {
-                    Answer::Done => Answer::Refused(4),
+                    Answer::Done => refused(4),
                     answer => answer,
                 }
             }
@@ -211,10 +216,10 @@ pub const FAULTS: [Planted; 26] = [
     Planted {
         name: "a leaf word is present where it is not 0",
         make: |call, table, memory| match (call.make(table, memory), *call) {
-            (Answer::Refused(13), Call::Read { caller, hpa, .. }) => {
+            (Answer::Refused { number: 13, .. }, Call::Read { caller, hpa, .. }) => {
                 match memory[leaf_word(table, hpa, caller)] {
-                    0 => Answer::Refused(13),
-                    _ => Answer::Refused(8),
+                    0 => refused(13),
+                    _ => refused(8),
                 }
             }
             (answer, _) => answer,
@@ -223,20 +228,20 @@ pub const FAULTS: [Planted; 26] = [
     Planted {
         name: "CENSUS takes 512 for a guest",
         make: |call, table, memory| match (call.make(table, memory), *call) {
-            (Answer::Refused(2), Call::Census { asid: 512 }) => Answer::Count(0),
+            (Answer::Refused { number: 2, .. }, Call::Census { asid: 512 }) => Answer::Count(0),
             (answer, _) => answer,
         },
     },
     Planted {
         name: "CENSUS gives 5 for a leaf that is not well formed",
         make: |call, table, memory| match (call.make(table, memory), *call) {
-            (Answer::Refused(12), Call::Census { asid }) => {
+            (Answer::Refused { number: 12, .. }, Call::Census { asid }) => {
                 // what the frames give if every fixed page were passed over
                 let mut plain = table.to_vec();
                 clear(&mut plain, is_fixed_page);
                 match (Call::Census { asid }).make(&mut plain, memory) {
-                    Answer::Refused(5) => Answer::Refused(5),
-                    _ => Answer::Refused(12),
+                    bad @ Answer::Refused { number: 5, .. } => bad,
+                    _ => refused(12),
                 }
             }
             (answer, _) => answer,
@@ -286,11 +291,11 @@ pub const FAULTS: [Planted; 26] = [
     Planted {
         name: "a leaf at N is well formed",
         make: |call, table, memory| match (call.make(table, memory), *call) {
-            (Answer::Refused(5), Call::Punfix { hpa, .. })
+            (Answer::Refused { number: 5, .. }, Call::Punfix { hpa, .. })
                 if is_fixed_page(entry(table, hpa))
                     && frame_of(entry(table, hpa).address) == layout::n(table) =>
             {
-                Answer::Refused(12)
+                refused(12)
             }
             (answer, _) => answer,
         },
@@ -298,7 +303,7 @@ pub const FAULTS: [Planted; 26] = [
     Planted {
         name: "15 does not look at the last entry",
         make: |call, table, memory| match (call.make(table, memory), *call) {
-            (Answer::Refused(15), Call::Pfix { .. }) => {
+            (Answer::Refused { number: 15, .. }, Call::Pfix { .. }) => {
                 let last = layout::n(table) - 1;
                 let saved = Entry::at(table, last);
                 let answer = accepted(call, table, memory, |table, _| {
@@ -307,7 +312,7 @@ pub const FAULTS: [Planted; 26] = [
                 if answer.is_some() {
                     saved.put(table, last);
                 }
-                answer.unwrap_or(Answer::Refused(15))
+                answer.unwrap_or(refused(15))
             }
             (answer, _) => answer,
         },
@@ -321,7 +326,9 @@ pub const FAULTS: [Planted; 26] = [
                 let mut copy = table.to_vec();
                 Entry::SHARED.put(&mut copy, layout::n(table) - 1);
                 match call.make(table, memory) {
-                    Answer::Refused(5) | Answer::Count(_) => call.make(&mut copy, memory),
+                    Answer::Refused { number: 5, .. } | Answer::Count(_) => {
+                        call.make(&mut copy, memory)
+                    }
                     answer => answer,
                 }
             }

@@ -5,8 +5,9 @@ use compare::program::second;
 use compare::run::{run, Run};
 use second::{page_check, Answer, Call};
 
-use crate::monitors::Planted;
+use crate::monitors::{bad, refused, Planted};
 use crate::pages::{Fault, PlantedPage};
+use crate::reasons;
 
 /// A run in which this monitor stands on both sides, so that there is no difference.
 fn run_of(monitor: &dyn Monitor) -> Run {
@@ -17,7 +18,7 @@ fn run_of(monitor: &dyn Monitor) -> Run {
 fn a_run_without_faults_passes() {
     let run = run([&second, &second], [&Proved, &Second], 3, 100_000);
     assert!(run.passed, "{}", run.printed);
-    let last = "100000 calls, seed 3, 0 differences, 108 cells reached\n";
+    let last = "100000 calls, seed 3, 0 differences, 108 cells and 96 of reasons reached\n";
     assert!(run.printed.ends_with(last), "{}", run.printed);
 }
 
@@ -32,7 +33,7 @@ fn an_empty_cell_fails() {
     let run = run_of(&Planted {
         name: "CENSUS never gives 12",
         make: |call, table, memory| match (call.make(table, memory), call) {
-            (Answer::Refused(12), Call::Census { .. }) => Answer::Refused(5),
+            (Answer::Refused { number: 12, .. }, Call::Census { .. }) => bad(4),
             (answer, _) => answer,
         },
     });
@@ -54,7 +55,7 @@ fn an_empty_cell_of_whole_pages_fails() {
         name: "page_check gives 6 for an entry that is not well formed",
         fault: Fault::Check(|[caller, gpa, hpa], table, memory| {
             match page_check(table, memory, caller, gpa, hpa) {
-                Answer::Refused(5) => Answer::Refused(6),
+                Answer::Refused { number: 5, .. } => refused(6),
                 answer => answer,
             }
         }),
@@ -68,7 +69,7 @@ fn a_cell_that_must_be_empty_fails() {
     let run = run_of(&Planted {
         name: "WRITE to a fixed page looks at the leaf first",
         make: |call, table, memory| match (call.make(table, memory), call) {
-            (Answer::Refused(10), Call::Write { .. }) => Answer::Refused(13),
+            (Answer::Refused { number: 10, .. }, Call::Write { .. }) => refused(13),
             (answer, _) => answer,
         },
     });
@@ -79,6 +80,54 @@ fn a_cell_that_must_be_empty_fails() {
     );
     let cell = "met, and can't be: WRITE refused with 13";
     assert!(run.printed.contains(cell), "{}", run.printed);
+}
+
+#[test]
+fn an_empty_cell_of_reasons_fails() {
+    let run = run_of(&Planted {
+        name: "PUNFIX gives reason 3 for 4",
+        make: |call, table, memory| match (call.make(table, memory), call) {
+            (answer, Call::Punfix { .. }) if answer == bad(4) => bad(3),
+            (answer, _) => answer,
+        },
+    });
+    let cell = "never met: PUNFIX refused with 5, reason 4\n";
+    assert!(!run.passed && run.printed.contains(cell), "{}", run.printed);
+}
+
+#[test]
+fn an_order_of_reasons_that_is_never_met_fails() {
+    let run = run_of(&Planted {
+        name: "PMERGE gives 6 for an entry that is not well formed",
+        make: |call, table, memory| match (call.make(table, memory), call) {
+            (Answer::Refused { number: 5, .. }, Call::Pmerge { .. }) => refused(6),
+            (answer, _) => answer,
+        },
+    });
+    let cell =
+        "never met: PMERGE refused with 5, where the first bad entry has reason 3 and the last 1\n";
+    assert!(!run.passed && run.printed.contains(cell), "{}", run.printed);
+}
+
+/// 5 with no reason, and another refusal with one.
+#[test]
+fn a_reason_that_no_refusal_has_fails() {
+    for (name, cell) in [
+        ("CENSUS drops the reason", "CENSUS refused with 5, reason 0"),
+        (
+            "PUNFIX gives 12 with the reason of the leaf's entry",
+            "PUNFIX refused with 12, reason 4",
+        ),
+    ] {
+        let fault = reasons::FAULTS.iter().find(|fault| fault.name == name);
+        let run = run_of(fault.expect("a fault of this name"));
+        let cell = format!("met, and can't be: {cell}\n");
+        assert!(
+            !run.passed && run.printed.contains(&cell),
+            "{}",
+            run.printed
+        );
+    }
 }
 
 #[test]
