@@ -11,7 +11,8 @@ use Rattle.words.specs.Choice.{pick}
 use Rattle.entries.specs.Entry.{bit, entry, fields, WellFormed, decoded, encoded}
 use Rattle.entries.specs.declared.entry.Entry.{Entry}
 use Rattle.entries.specs.declared.entry.Decoded.the-variants.{Good}
-use Rattle.entries.proofs.Tells.{obeyed, tells}
+use Rattle.entries.proofs.RuleLaws.{obeyed}
+use Rattle.entries.proofs.Tells.{tells}
 
 pub bit-small : (b : Bool) → bit b ≤ 1
 unfolding bit pick

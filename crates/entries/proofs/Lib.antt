@@ -2,4 +2,5 @@
 pub mod EntryLaws
 pub mod Examples
 pub mod LeafLaws
+pub mod RuleLaws
 pub mod Tells

@@ -12,8 +12,7 @@ use Rattle.words.proofs.ChoiceLaws.{and-left, and-right, or-cases}
 use Rattle.entries.specs.Entry.{SHARED, PRIVATE, MERGEABLE, LEAF, isAddress, frameOf, isGuest, isOwned, isUnowned, entry}
 use Rattle.entries.specs.Entry.{asidFits, flagsFit, addressFits, rule, byRules, WellFormed, toValidated, toMoved}
 use Rattle.entries.specs.declared.entry.Entry.{Entry}
-use Rattle.entries.specs.declared.entry.Decoded.{Decoded}
-use Rattle.entries.specs.declared.entry.Decoded.the-variants.{Good, Bad}
+use Rattle.entries.proofs.RuleLaws.{obeyed}
 
 -- joined tests that passed, from what each of them tells
 module _ {s t : Bool} {A B : Type 0} (f : s ≡ true → A) (g : t ≡ true → B) where
@@ -56,54 +55,6 @@ pub record Tells (n : ℕ) (e : Entry) : Type 0 where
   pub fixed-leaf : e .fixed ≡ true → frameOf (e .address) < n
   pub address-fits : isAddress (e .address) ≡ true
 
--- ---- the rules of an entry, one after the other
--- a good entry was chosen by a test that passed
-pub chosen : (b : Bool) (reason : ℕ) {d : Decoded} {e : Entry} → pick b d (Bad reason) ≡ Good e → (b ≡ true) × (d ≡ Good e)
-unfolding pick
-chosen true reason q = (refl, q)
-chosen false reason q = absurd (false≢true (cc))
-
--- it obeys all rules, and is the one that was given
-pub record Obeyed (n : ℕ) (clear : Bool) (given e : Entry) : Type 0 where
-  pub is-clear : clear ≡ true
-  pub asid-fits : asidFits given ≡ true
-  pub flags-fit : flagsFit given ≡ true
-  pub address-fits : addressFits n given ≡ true
-  pub same-entry : given ≡ e
-
-pub obeyed : (n : ℕ) (clear : Bool) (given e : Entry) → byRules n clear given ≡ Good e → Obeyed n clear given e
-unfolding byRules rule
-obeyed n clear given e h =
-    let one = chosen _ _ h in
-    let two = chosen _ _ (one .1) in
-    let three = chosen _ _ (two .1) in
-    let four = chosen _ _ (three .1) in
-    record {
-      is-clear = one .0;
-      asid-fits = two .0;
-      flags-fit = three .0;
-      address-fits = four .0;
-      same-entry = cc (four .1);
-    }
-
--- the reason of a bad one is one of the four
-one-rule :
-    (holds : Bool) (mine : ℕ) {d : Decoded} (reason : ℕ) → (1 ≤ mine) × (mine ≤ 4)
-    → (d ≡ Bad reason → (1 ≤ reason) × (reason ≤ 4)) → rule holds mine d ≡ Bad reason → (1 ≤ reason) × (reason ≤ 4)
-unfolding rule pick
-one-rule true mine reason within rest h = rest h
-one-rule false mine reason within rest h = let same : mine ≡ reason = cc in rw same at within
-
-pub reason-within : (n : ℕ) (clear : Bool) (e : Entry) (reason : ℕ) → byRules n clear e ≡ Bad reason → (1 ≤ reason) × (reason ≤ 4)
-unfolding byRules
-reason-within n clear e reason =
-    one-rule _ _ reason (omega arith, omega arith)
-    (one-rule _ _ reason (omega arith, omega arith)
-    (one-rule _ _ reason (omega arith, omega arith)
-    (one-rule _ _ reason (omega arith, omega arith)
-    (λ h. absurd (false≢true (cc))))))
-
--- ---- what a well formed entry tells
 zero-address : isAddress 0 ≡ true
 unfolding isAddress _and_
 zero-address = refl

@@ -9,7 +9,7 @@ use Rattle.rules.specs.Answers.{refused}
 use Rattle.rules.specs.Refusals.{Refusal, BAD-ENTRY, BROKEN-LEAF}
 use Rattle.rules.specs.State.{State}
 use Rattle.rules.proofs.History.{empty-sound}
-use Rattle.rules.proofs.Never.{Whole, whole, sound-never}
+use Rattle.rules.proofs.Never.{Unbroken, ordinary-unbroken, sound-never}
 use Rattle.rules.proofs.Sound.{Sound}
 use Rattle.requests.specs.Asked.{Asked, asked, requested, afterwards, NeverBroken}
 use Rattle.requests.specs.Requests.{Request, Reply, tells, respond}
@@ -17,21 +17,21 @@ use Rattle.requests.proofs.Asked.{afterwards-sound}
 use Rattle.requests.proofs.Refused.{RefusedAs, as-call, for-run, refused-as}
 
 -- no refusal with 5 or 12
-abbrev Unbroken : Reply → Type 0
-Unbroken reply = ((reason : ℕ) → reply ≢ tells (refused (BAD-ENTRY reason))) × (reply ≢ tells (refused BROKEN-LEAF))
+abbrev UnbrokenReply : Reply → Type 0
+UnbrokenReply reply = ((reason : ℕ) → reply ≢ tells (refused (BAD-ENTRY reason))) × (reply ≢ tells (refused BROKEN-LEAF))
 
-as-whole : {s : State} {frames : List ℕ} {r : Refusal} → Sound s → RefusedAs s frames r → Whole r
-as-whole {s} {r = r} sound (as-call c same h) = sound-never s sound c r h
-as-whole sound (for-run {n} o) = whole n o
+as-unbroken : {s : State} {frames : List ℕ} {r : Refusal} → Sound s → RefusedAs s frames r → Unbroken r
+as-unbroken {s} {r = r} sound (as-call c same h) = sound-never s sound c r h
+as-unbroken sound (for-run {n} o) = ordinary-unbroken n o
 
-reply-unbroken : (s : State) → Sound s → (request : Request) → Unbroken (respond s request .reply)
+reply-unbroken : (s : State) → Sound s → (request : Request) → UnbrokenReply (respond s request .reply)
 reply-unbroken s sound request =
-    (λ reason h. as-whole sound (refused-as s request _ h) .0 reason refl, λ h. as-whole sound (refused-as s request _ h) .1 refl)
+    (λ reason h. as-unbroken sound (refused-as s request _ h) .0 reason refl, λ h. as-unbroken sound (refused-as s request _ h) .1 refl)
 
 -- a request of a list got what those before it left
 each-unbroken :
     (s : State) (requests : List Request) (past rest : List Asked) (a : Asked) → Sound s
-    → requested s requests ≡ past ++ (a ∷ rest) → Unbroken (a .reply)
+    → requested s requests ≡ past ++ (a ∷ rest) → UnbrokenReply (a .reply)
 unfolding requested afterwards
 each-unbroken s [] [] rest a sound e = absurd (false≢true (cc))
 each-unbroken s [] (first ∷ past) rest a sound e = absurd (false≢true (cc))

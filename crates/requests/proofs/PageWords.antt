@@ -1,5 +1,5 @@
--- A page that is read is what 512 READs answer, and a page that is written is what 512 WRITEs leave: the checks are those of a SHARED access,
--- which every word of the frame passes or none does, and 512 words put one by one are the frame put whole.
+-- A page that is read is what 512 READs answer, and a page that is written is what 512 WRITEs leave: the checks are those of a SHARED
+-- access, which every word of the frame passes or none does, and 512 words put one by one are the frame put whole.
 -- Assumes nothing.
 use mathlib.Core.Path.{_≡_, refl, sym, ap, _∙_}
 use mathlib.Core.Bool.{Bool, true, false, false≢true}
@@ -19,7 +19,8 @@ use Rattle.rules.specs.State.{State, M, sized, wordAt, withWord, withFrame}
 use Rattle.rules.proofs.Chain.{check-passed, check-failed}
 use Rattle.rules.proofs.StateLaws.{frame-has, withWords, frame-by-words, size-word, entry-after-word}
 use Rattle.requests.specs.Pages.{sharedAccess, readable, handed, pageRead, pageCheck, pageWrite}
-use Rattle.requests.specs.PageWords.{PageIsReads, whole, empty, PageReadIsReads, writes, PageIsWrites, PageWriteIsWrites, UnfitIsArgument}
+use Rattle.requests.specs.PageWords.{PageIsReads, whole, empty, PageReadIsReads, writes, PageIsWrites, PageWriteIsWrites}
+use Rattle.requests.specs.PageWords.{UnfitIsArgument}
 use Rattle.requests.proofs.Shared.{shared, access-shared, Settled, passes, refuses, shared-settled, shared-same}
 use Rattle.requests.proofs.Shared.{sized-again}
 

@@ -10,7 +10,7 @@ use Rattle.rules.specs.Refusals.{Refusal}
 use Rattle.rules.specs.State.{State}
 use Rattle.requests.specs.Requests.{Request, CALL, PAGE-READ, PAGE-WRITE, PAGE-CHECK, tells, respond}
 
--- the frames that a request names, in the order of its arguments
+-- the frames that a request names, in the order of its arguments, or meets
 unfoldable pub framesNamed : State → Request → List ℕ
 framesNamed s (CALL call) = framesOf s call
 framesNamed s (PAGE-READ caller gpa hpa) = frameOf hpa ∷ []

@@ -1,4 +1,3 @@
 -- The laws that the proofs of `rmp`, and of the crates above it, cite.
-pub mod ByRules
 pub mod ByType
 pub mod TableLaws

@@ -19,7 +19,7 @@ use Rattle.rmp.specs.Table.{covered, isWhole, entryIn, addressIn, putEnt
 use Rattle.entries.specs.declared.entry.Entry.{Entry}
 use Rattle.entries.specs.declared.entry.Decoded.the-variants.{Good, Bad}
 use Rattle.entries.proofs.EntryLaws.{decode-encode, decode-good, encode-decode}
-use Rattle.entries.proofs.Tells.{chosen, reason-within}
+use Rattle.entries.proofs.RuleLaws.{chosen, reason-within}
 
 -- the words of a table after an entry was put
 module _ (t : List ℕ) (f : ℕ) (e : Entry) where

@@ -18,16 +18,16 @@ sound-faultless sound (bad-entry f reason inside here first) = sound .decodes f 
 sound-faultless sound (broken-leaf f e guest here fixed word) = sound .unbroken f e guest here fixed word
 
 -- no refusal with 5 or 12
-abbrev pub Whole : Refusal → Type 0
-Whole r = ((reason : ℕ) → r ≢ BAD-ENTRY reason) × (r ≢ BROKEN-LEAF)
+abbrev pub Unbroken : Refusal → Type 0
+Unbroken r = ((reason : ℕ) → r ≢ BAD-ENTRY reason) × (r ≢ BROKEN-LEAF)
 
-pub whole : (n : ℕ) → ordinary n ≡ true → Whole (alone n)
-whole n o =
+pub ordinary-unbroken : (n : ℕ) → ordinary n ≡ true → Unbroken (alone n)
+ordinary-unbroken n o =
     (λ reason e. false≢true (rw (ap (λ (r : Refusal). r .number) e) at o), λ e. false≢true (rw (ap (λ (r : Refusal). r .number) e) at o))
 
-sound-whole : {s : State} {frames : List ℕ} {r : Refusal} → Sound s → Cause s frames r → Whole r
-sound-whole sound (plain {n} o) = whole n o
-sound-whole sound (fault f) = absurd (sound-faultless sound f)
+sound-unbroken : {s : State} {frames : List ℕ} {r : Refusal} → Sound s → Cause s frames r → Unbroken r
+sound-unbroken sound (plain {n} o) = ordinary-unbroken n o
+sound-unbroken sound (fault f) = absurd (sound-faultless sound f)
 
-pub sound-never : (s : State) → Sound s → (c : Call) (r : Refusal) → step s c .told ≡ refused r → Whole r
-sound-never s sound c r h = sound-whole sound (refused-why s c r h)
+pub sound-never : (s : State) → Sound s → (c : Call) (r : Refusal) → step s c .told ≡ refused r → Unbroken r
+sound-never s sound c r h = sound-unbroken sound (refused-why s c r h)

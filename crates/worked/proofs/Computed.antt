@@ -22,7 +22,8 @@ unfoldable pub computed : State → Call → Outcome
 unfolding pick _and_ _or_ differing frameCount isFramed wordIn frameIn zeros putWord putFrame differingIn
     isAddress isOwned isUnowned entry zeroEntry asidFits flagsFit addressFits rule byRules fields decoded bit encoded toValidated
     toFixed toUnfixed leafWord presentAt covered isWhole entryIn putEntry unfixedAccess fixedAccess coveredAccess access read
-    write settle unless when begins entered bothEntered isParty isGuest isHost updateArguments validateArguments twoFrameArguments unmergeArguments oneFrameArguments
+    write settle unless when begins entered bothEntered isParty isGuest isHost updateArguments
+    validateArguments twoFrameArguments unmergeArguments oneFrameArguments
     accessArguments mayAccess assigning updateAnswer rmpupdate validating validateAnswer pvalidate step inLeaf inEntry holding counted tally
     reported census leafFrame isLeaf consulted placed vacant namesLeaf leafInUse isSharedBy stillShared fixing pfix merging pmerge
     unmerging punmerge unfixing punfix N M sized covers frameOf entryAt wordAt frameAt differingAt withEntry withWord withFrame

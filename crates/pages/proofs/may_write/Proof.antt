@@ -1,5 +1,5 @@
--- `pages::may_write` meets its contract: 1 and 2 of the run, and then the rule is what the three parts of an access come to, for a SHARED WRITE
--- to word 0.
+-- `pages::may_write` meets its contract: 1 and 2 of the run, and then the rule is what the three parts of an access come to, for a SHARED
+-- WRITE to word 0.
 -- Assumes nothing.
 use mathlib.Core.Path.{_≡_}
 use denote.Ref.{now}

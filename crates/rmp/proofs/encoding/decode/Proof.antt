@@ -5,7 +5,7 @@ use native.Mathlib.Omega.{arith}
 use borrow.Author.Needs.{needs}
 use Rattle.words.specs.Choice.{_and_}
 use Rattle.entries.specs.Entry.{entry, fields, decoded}
-use Rattle.rmp.proofs.ByRules.{all-hold, one-broken}
+use Rattle.entries.proofs.RuleLaws.{all-hold, one-broken}
 use Rattle.rmp.proofs.encoding.decode.Statement.{statement}
 use Rattle.rmp.proofs.encoding.decode.Tie as tie
 
