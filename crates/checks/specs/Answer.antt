@@ -1,7 +1,7 @@
 -- "When an answer is an enum, a definition gives this paper's number and values for each of its cases." (01, "How to write each place")
 use mathlib.Core.List.{List}
 use Prim.Native.Nat.{ℕ}
-use Rattle.rules.specs.Answers.{Told, refused, done, none, closed, opened, already, word, count, Outcome, outcome}
+use Rattle.rules.specs.Answers.{Told, refused, done, none, closed, opened, already, unfixed, word, count, Outcome, outcome}
 use Rattle.rules.specs.Refusals as rules
 use Rattle.rules.specs.Refusals.{GEOMETRY, ARGUMENT, CALLER, OUTSIDE, BAD-ENTRY, TYPE, OWNER, ADDRESS, NOT-VALIDATED}
 use Rattle.rules.specs.Refusals.{FIXED, NOT-FIXED, BROKEN-LEAF, NO-PLACE, PLACE-TAKEN, LEAF-IN-USE, CONTENTS, STILL-SHARED}
@@ -11,7 +11,7 @@ use Rattle.checks.specs.declared.answer.Refusal.the-variants.{Geometry, 
 use Rattle.checks.specs.declared.answer.Refusal.the-variants.{Address, NotValidated, Fixed, NotFixed, BrokenLeaf, NoPlace}
 use Rattle.checks.specs.declared.answer.Refusal.the-variants.{PlaceTaken, LeafInUse, Contents, StillShared}
 use Rattle.checks.specs.declared.answer.Answer.{Answer}
-use Rattle.checks.specs.declared.answer.Answer.the-variants.{Refused, Done, None, Closed, Opened, Already, Word, Count}
+use Rattle.checks.specs.declared.answer.Answer.the-variants.{Refused, Done, None, Closed, Opened, Already, Unfixed, Word, Count}
 
 -- the rules' refusal that one in code means: its number, and with 5 the reason
 abbrev pub means : Refusal → rules.Refusal
@@ -40,6 +40,7 @@ told None = none
 told (Closed asid gpa) = closed asid gpa
 told Opened = opened
 told Already = already
+told (Unfixed owner) = unfixed owner
 told (Word w) = word w
 told (Count n) = count n
 

@@ -63,7 +63,7 @@ impl Refusal {
 
 pub enum Answer {
     Refused(Refusal),
-    // PFIX, PMERGE, PUNMERGE, PUNFIX and WRITE
+    // PFIX, PMERGE, PUNMERGE and WRITE
     Done,
     // RMPUPDATE
     None,
@@ -71,6 +71,8 @@ pub enum Answer {
     // PVALIDATE
     Opened,
     Already,
+    // PUNFIX, with the new owner, or 0 where there is none
+    Unfixed(u64),
     // READ
     Word(u64),
     // CENSUS

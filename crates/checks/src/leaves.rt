@@ -19,7 +19,8 @@ use entries::leaf::leaf_word;
 use frames::frame;
 use rmp::table;
 
-fn is_leaf(decoded: Decoded) -> bool
+// Whether a decoded entry is a LEAF.
+pub fn is_leaf(decoded: Decoded) -> bool
     ensures { λ r. ⌜ r ≡ isLeaf decoded ⌝ }
 {
     let Decoded::Good(e) = decoded else {
@@ -51,7 +52,7 @@ pub fn vacant(word: LeafWord) -> Gate
     }
 }
 
-// 12, then 13: PUNMERGE and PUNFIX go on only with a word that is present, and so with the guest's address in the fixed page.
+// 12, then 13: PUNMERGE goes on only with a word that is present, and so with the guest's address in the fixed page.
 pub fn placed(page: Entry, word: LeafWord) -> Place
     ensures { λ r. ⌜ ((rest : Entry → ℕ → Verdict) → withPlace r rest ≡ placed word (rest page)) ⌝ }
 {

@@ -3,12 +3,12 @@
 -- Assumes nothing.
 use mathlib.Core.Path.{_≡_, refl, sym, _∙_}
 use mathlib.Core.Bool.{Bool, true, false, false≢true}
-use mathlib.Core.Logic.{_⊎_, inl, inr, ⊎-elim}
+use mathlib.Core.Logic.{_≢_, _⊎_, inl, inr, ⊎-elim}
 use Prim.Native.Nat.{ℕ, _≤_, _<_}
 use native.Mathlib.Omega.{arith}
 use borrow.Author.Tests.{eqb-true, leb-true, ltb-true, le-leb, lt-ltb, not-true}
 use Rattle.words.specs.Choice.{pick, _and_, _or_}
-use Rattle.words.proofs.ChoiceLaws.{and-left, and-right, or-cases}
+use Rattle.words.proofs.ChoiceLaws.{same-or-not, and-left, and-right, or-cases}
 use Rattle.entries.specs.Entry.{SHARED, PRIVATE, MERGEABLE, LEAF, isAddress, frameOf, isGuest, isOwned, isUnowned, entry}
 use Rattle.entries.specs.Entry.{asidFits, flagsFit, addressFits, rule, byRules, WellFormed, toValidated, toMoved}
 use Rattle.entries.specs.declared.entry.Entry.{Entry}
@@ -42,6 +42,10 @@ guest-range asid = both (leb-true _ _) (leb-true _ _)
 pub in-range : (asid : ℕ) → 1 ≤ asid → asid < 512 → isGuest asid ≡ true
 unfolding isGuest _and_
 in-range asid one small = rw (le-leb 1 asid one, le-leb asid 511 (omega arith))
+
+pub out-of-range : (asid : ℕ) → asid < 512 → isGuest asid ≡ false → asid ≡ 0
+out-of-range asid small not-one =
+    ⊎-elim same (λ (some : asid ≢ 0). absurd (false≢true (sym not-one ∙ in-range asid (omega (arith, some)) small))) (same-or-not asid 0)
 
 pub record Tells (n : ℕ) (e : Entry) : Type 0 where
   pub asid-small : e .asid < 512

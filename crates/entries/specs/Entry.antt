@@ -118,16 +118,13 @@ encoded e =
       1 = e .address;
     }
 
--- "validating, fixing or moving it gives a new value". To unfix a page is to put it back at the guest's address; to move it, to give it
--- to another guest, as PUNMERGE's entry 2 is entry 1 moved.
+-- "validating, fixing or moving it gives a new value". To move a page is to give it to a guest, at the guest's address and unfixed:
+-- PUNMERGE's entry 2 is entry 1 moved, and PUNFIX moves a page to the one guest that is left in it.
 unfoldable pub toValidated : Entry → Entry
 toValidated e = entry (e .asid) (e .kind) true (e .fixed) (e .address)
 
 unfoldable pub toFixed : Entry → ℕ → Entry
 toFixed e leaf = entry (e .asid) (e .kind) (e .validated) true leaf
-
-unfoldable pub toUnfixed : Entry → ℕ → Entry
-toUnfixed e gpa = entry (e .asid) (e .kind) (e .validated) false gpa
 
 unfoldable pub toMoved : Entry → ℕ → ℕ → Entry
 toMoved e asid gpa = entry asid (e .kind) (e .validated) false gpa

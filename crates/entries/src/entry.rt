@@ -1,7 +1,7 @@
 // An entry of the RMP, and the numbers in it.
 ghost use mathlib.Core.Path.{_≡_};
 ghost use Rattle.entries.specs.Entry.{isAddress, frameOf, isParty, isGuest, isOwned, isUnowned};
-ghost use Rattle.entries.specs.Entry.{reasonOf, zeroEntry, toValidated, toFixed, toUnfixed, toMoved};
+ghost use Rattle.entries.specs.Entry.{reasonOf, zeroEntry, toValidated, toFixed, toMoved};
 
 // The types of a page.
 pub const SHARED: u64 = 0;
@@ -139,20 +139,7 @@ impl Entry {
         }
     }
 
-    // The entry with FIXED clear, at the guest's address.
-    pub fn to_unfixed(self, gpa: u64) -> Entry
-        ensures { λ r. ⌜ r ≡ toUnfixed self gpa ⌝ }
-    {
-        Entry {
-            asid: self.asid,
-            kind: self.kind,
-            validated: self.validated,
-            fixed: false,
-            address: gpa,
-        }
-    }
-
-    // The entry with FIXED clear, of another guest and at its address.
+    // The entry with FIXED clear, of this guest and at its address.
     pub fn to_moved(self, asid: u64, gpa: u64) -> Entry
         ensures { λ r. ⌜ r ≡ toMoved self asid gpa ⌝ }
     {

@@ -1,2 +1,3 @@
--- Laws that the proofs of this crate cite.
+-- The laws that the proofs of `fixing` cite.
+pub mod LeftLaws
 pub mod ScanLaws

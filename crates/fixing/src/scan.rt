@@ -1,12 +1,11 @@
-// The two checks that look through a whole run: who uses a leaf, and who is left in one.
+// 15: who uses a leaf. The check looks through the whole table.
 ghost use mathlib.Core.Path.{_≡_};
 ghost use mathlib.Core.List.{List};
 ghost use Prim.Native.Nat.{ℕ};
 ghost use Rattle.rmp.specs.Table.{covered, entryIn};
-ghost use Rattle.rules.specs.Leaves.{namesLeaf, leafInUse, stillShared};
+ghost use Rattle.rules.specs.Leaves.{namesLeaf, leafInUse};
 ghost use Rattle.rules.specs.State.{state};
 use entries::entry::Decoded;
-use frames::frame;
 use rmp::table;
 
 fn names_leaf(decoded: Decoded, leaf: u64) -> bool
@@ -44,12 +43,4 @@ pub fn leaf_in_use(table: &[u64], leaf: u64) -> bool
         frame += 1;
     }
     false
-}
-
-// 17: whether a word of this leaf frame, other than the owner's, has bit 0 set: more words have it than the owner's.
-pub fn still_shared(memory: &[u64], frame: usize, owner: u64) -> bool
-    ensures { λ r. ⌜ ((table : List ℕ) → r ≡ stillShared (state table (now (memory .entry))) frame owner 512) ⌝ }
-{
-    let own = frame::word(memory, frame, owner as usize) % 2;
-    frame::odd(memory, frame) != own
 }

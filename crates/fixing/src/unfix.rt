@@ -1,88 +1,146 @@
-// PUNFIX: a page gives its leaf back.
+// PUNFIX: a page gives its leaf back, to the one guest that is left in it or to nobody.
 ghost use mathlib.Core.Path.{_≡_};
+ghost use mathlib.Core.List.{List};
 ghost use Prim.Native.Nat.{ℕ};
 ghost use lib.Dec.{eqb};
-ghost use Rattle.entries.specs.Entry.{MERGEABLE, frameOf};
+ghost use Rattle.frames.specs.Frame.{zeros};
+ghost use Rattle.entries.specs.Entry.{MERGEABLE, frameOf, zeroEntry, toMoved};
 ghost use Rattle.entries.specs.declared.entry.Entry.{Entry};
-ghost use Rattle.rules.specs.Answers.{done, Verdict, grant, settle, unless, when};
-ghost use Rattle.rules.specs.Leaves.{leafFrame, consulted, placed, stillShared};
+ghost use Rattle.rules.specs.Answers.{unfixed, Verdict, grant, settle, unless};
+ghost use Rattle.rules.specs.Leaves.{leafFrame, isLeaf, ofGuest, remaining};
 ghost use Rattle.rules.specs.Merging.{unfixing, punfix};
-ghost use Rattle.rules.specs.Refusals.{TYPE, NOT-FIXED, STILL-SHARED};
-ghost use Rattle.rules.specs.State.{state};
+ghost use Rattle.rules.specs.Refusals.{TYPE, NOT-FIXED, BROKEN-LEAF};
+ghost use Rattle.rules.specs.State.{state, entryAt, withFrame};
 ghost use Rattle.checks.specs.Answer.{gave};
-ghost use Rattle.checks.specs.Passed.{withPlace};
-use crate::scan;
+ghost use Rattle.fixing.specs.Left.{withLeft};
 use checks::answer::Answer;
 use checks::answer::Refusal;
 use checks::begin::begin_unfix;
 use checks::gate::Gate;
-use checks::leaves;
+use checks::leaves::is_leaf;
 use checks::named;
 use checks::passed::Named;
-use checks::passed::Place;
 use entries::entry::Entry;
 use entries::entry::frame_of;
+use entries::entry::is_guest;
+use entries::leaf::LeafWord;
+use entries::leaf::leaf_word;
 use frames::frame;
 use gates::unfix_needs_met;
 use rmp::table;
+use words::run;
+use words::run::Odd;
 
-// The page at `hpa` is its owner's again, at the address that the leaf has for it, and the leaf becomes SHARED.
+// Who is left in a fixed page, with the page's entry: one guest, with its number and its address, or nobody.
+pub enum Left {
+    Guest(Entry, u64, u64),
+    Nobody(Entry),
+    Refused(Refusal),
+}
+
+// The page at `hpa` becomes the page of the one guest that is left in it, or SHARED where nobody is, and its leaf SHARED.
 pub fn punfix(table: &mut [u64], memory: &mut [u64], caller: u64, hpa: u64) -> Answer
     ensures { λ r. ⌜ gave r (now (table .exit)) (now (memory .exit))
         ≡ punfix (state (now (table .entry)) (now (memory .entry))) caller hpa ⌝ }
 {
     match check_unfix(table, memory, caller, hpa) {
-        Place::Refused(refusal) => Answer::Refused(refusal),
-        Place::Good(old, gpa) => {
-            unfix(table, memory, frame_of(hpa), old, gpa);
-            Answer::Done
+        Left::Refused(refusal) => Answer::Refused(refusal),
+        Left::Guest(old, guest, gpa) => {
+            unfix(table, memory, frame_of(hpa), old, old.to_moved(guest, gpa));
+            Answer::Unfixed(guest)
+        }
+        Left::Nobody(old) => {
+            free(table, memory, frame_of(hpa), old);
+            Answer::Unfixed(0)
         }
     }
 }
 
-fn check_unfix(table: &[u64], memory: &[u64], caller: u64, hpa: u64) -> Place
+fn check_unfix(table: &[u64], memory: &[u64], caller: u64, hpa: u64) -> Left
     ensures { λ r. ⌜ punfix (state (now (table .entry)) (now (memory .entry))) caller hpa
-        ≡ settle (state (now (table .entry)) (now (memory .entry))) (withPlace r λ old gpa.
-        grant done (unfixing (state (now (table .entry)) (now (memory .entry))) (frameOf hpa) old gpa)) ⌝ }
+        ≡ settle (state (now (table .entry)) (now (memory .entry))) (withLeft r
+        (λ old guest gpa. grant (unfixed guest)
+        (unfixing (state (now (table .entry)) (now (memory .entry))) (frameOf hpa) old (toMoved old guest gpa)))
+        (λ old. grant (unfixed 0)
+        (unfixing (withFrame (state (now (table .entry)) (now (memory .entry))) (frameOf hpa) zeros) (frameOf hpa) old zeroEntry))) ⌝ }
 {
     let begun = begin_unfix(table, memory, caller, hpa);
     match named::first(table, begun, hpa) {
-        Named::Refused(refusal) => Place::Refused(refusal),
-        Named::Good(old) => owner_place(table, memory, old),
+        Named::Refused(refusal) => Left::Refused(refusal),
+        Named::Good(old) => left_in_page(table, memory, old),
     }
 }
 
-// The owner's place in a page that it has alone: 6, 11, 12, 13, 17. The leaf is looked through only where all else has passed.
-fn owner_place(table: &[u64], memory: &[u64], old: Entry) -> Place
-    ensures { λ r. ⌜ ((rest : Entry → ℕ → Verdict) → withPlace r rest
+// Of the page: 6, 11, 12 for the leaf's entry, and then who is left.
+fn left_in_page(table: &[u64], memory: &[u64], old: Entry) -> Left
+    ensures { λ r. ⌜ ((one : Entry → ℕ → ℕ → Verdict) (none : Entry → Verdict) → withLeft r one none
         ≡ unless (eqb (old .kind) MERGEABLE) TYPE
         (unless (old .fixed) NOT-FIXED
-        (placed (consulted (state (now (table .entry)) (now (memory .entry))) old (old .asid)) λ gpa.
-        when (stillShared (state (now (table .entry)) (now (memory .entry))) (leafFrame old) (old .asid) 512) STILL-SHARED
-        (rest old gpa)))) ⌝ }
+        (unless (isLeaf (entryAt (state (now (table .entry)) (now (memory .entry))) (leafFrame old))) BROKEN-LEAF
+        (remaining (state (now (table .entry)) (now (memory .entry))) (leafFrame old) (one old) (none old))))) ⌝ }
 {
     let met = unfix_needs_met(old);
     if let Gate::Shut(refusal) = met {
-        return Place::Refused(refusal);
+        return Left::Refused(refusal);
     }
-    let place = leaves::placed(old, leaves::consulted(table, memory, old, old.asid));
-    let Place::Good(_, _) = place else {
-        return place;
-    };
-    let shared = scan::still_shared(memory, frame_of(old.address), old.asid);
-    if shared {
-        return Place::Refused(Refusal::StillShared);
+    let good = is_leaf(table::read(table, frame_of(old.address)));
+    if good {
+        return left_in_leaf(memory, old);
     }
-    place
+    Left::Refused(Refusal::BrokenLeaf)
 }
 
-fn unfix(table: &mut [u64], memory: &mut [u64], frame: usize, old: Entry, gpa: u64)
-    ensures { λ _. ⌜ state (now (table .exit)) (now (memory .exit))
-        ≡ unfixing (state (now (table .entry)) (now (memory .entry))) frame old gpa ⌝ }
+// The leaf is looked through once, whatever it holds.
+fn left_in_leaf(memory: &[u64], old: Entry) -> Left
+    ensures { λ r. ⌜ ((table : List ℕ) (one : Entry → ℕ → ℕ → Verdict) (none : Entry → Verdict) → withLeft r one none
+        ≡ remaining (state table (now (memory .entry))) (leafFrame old) (one old) (none old)) ⌝ }
 {
     let leaf = frame_of(old.address);
-    table::put(table, frame, old.to_unfixed(gpa));
-    let freed = Entry::zero();
-    table::put(table, leaf, freed);
+    match run::find_odd(frame::part(memory, leaf)) {
+        Odd::None => Left::Nobody(old),
+        Odd::One(index) => of_guest(
+            old,
+            index as u64,
+            leaf_word(frame::word(memory, leaf, index)),
+        ),
+        Odd::Several => Left::Refused(Refusal::StillShared),
+    }
+}
+
+// The one that is left has to be a guest, at an address.
+fn of_guest(old: Entry, index: u64, word: LeafWord) -> Left
+    ensures { λ r. ⌜ ((one : Entry → ℕ → ℕ → Verdict) (none : Entry → Verdict) → withLeft r one none
+        ≡ ofGuest index word (one old index)) ⌝ }
+{
+    match word {
+        LeafWord::Present(gpa) => {
+            let guest = is_guest(index);
+            if guest {
+                return Left::Guest(old, index, gpa);
+            }
+            Left::Refused(Refusal::BrokenLeaf)
+        }
+        LeafWord::Misshapen => Left::Refused(Refusal::BrokenLeaf),
+        LeafWord::Absent => Left::Refused(Refusal::BrokenLeaf),
+    }
+}
+
+// The page gets another entry, and its leaf becomes SHARED.
+fn unfix(table: &mut [u64], memory: &mut [u64], frame: usize, old: Entry, new: Entry)
+    ensures { λ _. ⌜ state (now (table .exit)) (now (memory .exit))
+        ≡ unfixing (state (now (table .entry)) (now (memory .entry))) frame old new ⌝ }
+{
+    let leaf = frame_of(old.address);
+    table::put(table, frame, new);
+    table::put(table, leaf, Entry::zero());
     frame::zero(memory, leaf);
+}
+
+// The page is zeroed and becomes SHARED, and so does its leaf.
+fn free(table: &mut [u64], memory: &mut [u64], frame: usize, old: Entry)
+    ensures { λ _. ⌜ state (now (table .exit)) (now (memory .exit))
+        ≡ unfixing (withFrame (state (now (table .entry)) (now (memory .entry))) frame zeros) frame old zeroEntry ⌝ }
+{
+    frame::zero(memory, frame);
+    unfix(table, memory, frame, old, Entry::zero());
 }

@@ -5,7 +5,7 @@ use mathlib.Core.Path.{_≡_, refl}
 use mathlib.Core.List.{List}
 use Prim.Native.Nat.{ℕ}
 use Rattle.words.specs.Choice.{pick}
-use Rattle.rules.specs.Answers.{Told, refused, done, none, closed, opened, already, word, count, Outcome, outcome}
+use Rattle.rules.specs.Answers.{Told, refused, done, none, closed, opened, already, unfixed, word, count, Outcome, outcome}
 use Rattle.rules.specs.State.{state}
 use Rattle.requests.specs.Requests.{telling}
 use Rattle.flat.specs.Flat.{flat, returned, flattened, says, FlatSays, said}
@@ -19,6 +19,7 @@ flat-says none = refl
 flat-says (closed asid gpa) = refl
 flat-says opened = refl
 flat-says already = refl
+flat-says (unfixed owner) = refl
 flat-says (word value) = refl
 flat-says (count places) = refl
 

@@ -5,7 +5,7 @@ use mathlib.Core.List.{List}
 use Prim.Native.Nat.{ℕ}
 use lib.Dec.{eqb}
 use Rattle.words.specs.Choice.{pick}
-use Rattle.rules.specs.Answers.{Told, refused, done, none, closed, opened, already, word, count, Outcome, outcome}
+use Rattle.rules.specs.Answers.{Told, refused, done, none, closed, opened, already, unfixed, word, count, Outcome, outcome}
 use Rattle.rules.specs.State.{State, state}
 use Rattle.flat.specs.declared.Flat.{Flat}
 
@@ -34,6 +34,9 @@ WORD = 6
 abbrev pub COUNT : ℕ
 COUNT = 7
 
+abbrev pub UNFIXED : ℕ
+UNFIXED = 8
+
 abbrev pub numbers : ℕ → ℕ → ℕ → ℕ → ℕ → ℕ → Flat
 numbers refusal kind asid gpa value reason =
     record { refusal = refusal; kind = kind; asid = asid; gpa = gpa; value = value; reason = reason }
@@ -45,6 +48,7 @@ flat none = numbers 0 NONE 0 0 0 0
 flat (closed asid gpa) = numbers 0 CLOSED asid gpa 0 0
 flat opened = numbers 0 OPENED 0 0 0 0
 flat already = numbers 0 ALREADY 0 0 0 0
+flat (unfixed owner) = numbers 0 UNFIXED owner 0 0 0
 flat (word value) = numbers 0 WORD 0 0 value 0
 flat (count places) = numbers 0 COUNT 0 0 places 0
 
@@ -69,7 +73,8 @@ says r =
     (pick (eqb (r .kind) OPENED) opened
     (pick (eqb (r .kind) ALREADY) already
     (pick (eqb (r .kind) WORD) (word (r .value))
-    (count (r .value))))))))
+    (pick (eqb (r .kind) COUNT) (count (r .value))
+    (unfixed (r .asid)))))))))
 
 abbrev pub FlatSays : Type 0
 FlatSays = (told : Told) → says (flat told) ≡ told

@@ -21,6 +21,8 @@ pub const WORD: u64 = 6;
 
 pub const COUNT: u64 = 7;
 
+pub const UNFIXED: u64 = 8;
+
 // `refusal` is the number of a refusal, or 0. `reason` comes with 5 alone: what is bad in the entry. What an answer does not have is 0.
 #[repr(C)]
 pub struct Flat {
@@ -57,6 +59,7 @@ pub fn flatten(answer: Answer) -> Flat
         Answer::Closed { asid, gpa } => numbers(0, CLOSED, asid, gpa, 0, 0),
         Answer::Opened => numbers(0, OPENED, 0, 0, 0, 0),
         Answer::Already => numbers(0, ALREADY, 0, 0, 0, 0),
+        Answer::Unfixed(owner) => numbers(0, UNFIXED, owner, 0, 0, 0),
         Answer::Word(word) => numbers(0, WORD, 0, 0, word, 0),
         Answer::Count(places) => numbers(0, COUNT, 0, 0, places, 0),
     }

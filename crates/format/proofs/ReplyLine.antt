@@ -9,7 +9,7 @@ use Prim.Native.Nat.{ℕ}
 use native.Mathlib.Omega.{arith}
 use Rattle.words.specs.Choice.{pick}
 use Rattle.words.proofs.ChoiceLaws.{same-or-not}
-use Rattle.rules.specs.Answers.{Told, refused, done, none, closed, opened, already, word, count}
+use Rattle.rules.specs.Answers.{Told, refused, done, none, closed, opened, already, unfixed, word, count}
 use Rattle.rules.specs.Calls.{Call, RMPUPDATE, PVALIDATE, PFIX, PMERGE, PUNMERGE, PUNFIX, READ, WRITE, CENSUS}
 use Rattle.format.specs.Ascii.{ascii}
 use Rattle.format.specs.Number.{hex, decimal}
@@ -51,6 +51,10 @@ all-without mark (byte ∷ run) e =
     (λ h. let past = up-to-past mark byte run h in (h, all-without mark run (cc)))
     (same-or-not byte mark)
 
+number-without : (n : ℕ) → Without LF (ascii " ok " ++ hex n)
+unfolding upTo pick
+number-without n = without-append LF (ascii " ok ") (hex n) (all-without LF (ascii " ok ") refl) (hex-without LF n (omega arith))
+
 answered-without : (told : Told) → Without LF (answered told)
 unfolding answered upTo pick
 answered-without (refused refusal) =
@@ -65,10 +69,9 @@ answered-without (closed asid gpa) =
     without-append LF (ascii " ok closed " ++ hex asid ++ ascii " ") (hex gpa) space (hex-without LF gpa (omega arith))
 answered-without opened = all-without LF (ascii " ok opened") refl
 answered-without already = all-without LF (ascii " ok already") refl
-answered-without (word value) =
-    without-append LF (ascii " ok ") (hex value) (all-without LF (ascii " ok ") refl) (hex-without LF value (omega arith))
-answered-without (count number) =
-    without-append LF (ascii " ok ") (hex number) (all-without LF (ascii " ok ") refl) (hex-without LF number (omega arith))
+answered-without (unfixed owner) = number-without owner
+answered-without (word value) = number-without value
+answered-without (count number) = number-without number
 
 -- ---- a reply is a run without a line feed, and a line feed
 module _ (call : Call) where

@@ -7,7 +7,7 @@ use Prim.Native.Nat.{ℕ, suc, _*_, _≤_}
 use native.Mathlib.Omega.{arith}
 use lib.ListN.{length, length-append, length-map}
 use Rattle.words.proofs.ChoiceLaws.{same-or-not}
-use Rattle.rules.specs.Answers.{Told, refused, done, none, closed, opened, already, word, count}
+use Rattle.rules.specs.Answers.{Told, refused, done, none, closed, opened, already, unfixed, word, count}
 use Rattle.rules.specs.Calls.{Call}
 use Rattle.rules.specs.History.{Made, history}
 use Rattle.format.specs.Line.{Said, says, wrong, longer, said}
@@ -38,6 +38,7 @@ answered-most none = omega arith
 answered-most (closed asid gpa) = simp length-append (omega (arith, hex-most asid, hex-most gpa))
 answered-most opened = omega arith
 answered-most already = omega arith
+answered-most (unfixed owner) = simp length-append (omega (arith, hex-most owner))
 answered-most (word value) = simp length-append (omega (arith, hex-most value))
 answered-most (count number) = simp length-append (omega (arith, hex-most number))
 

@@ -11,7 +11,7 @@ use lib.Dec.{eqb}
 use lib.ListN.{length, getD, drop}
 use lib.Seq.{drop-append-add}
 use Rattle.words.specs.Choice.{pick}
-use Rattle.rules.specs.Answers.{Told, refused, done, none, closed, opened, already, word, count}
+use Rattle.rules.specs.Answers.{Told, refused, done, none, closed, opened, already, unfixed, word, count}
 use Rattle.rules.specs.Calls.{Call, RMPUPDATE, PVALIDATE, PFIX, PMERGE, PUNMERGE, PUNFIX, READ, WRITE, CENSUS}
 use Rattle.rules.specs.Refusals.{alone}
 use Rattle.rules.specs.Words.{MayAnswer, is-refused, is-none, is-closed, is-opened, is-already, is-fixed, is-merged, is-unmerged}
@@ -65,7 +65,7 @@ granted (PVALIDATE caller gpa hpa kind) text = pick (eqb (getD text 5 0) (code "
 granted (PFIX caller hpa leaf) text = done
 granted (PMERGE caller hpa1 hpa2) text = done
 granted (PUNMERGE caller hpa1 hpa2 asid) text = done
-granted (PUNFIX caller hpa) text = done
+granted (PUNFIX caller hpa) text = unfixed (number LF (drop 5 text))
 granted (READ caller gpa hpa gtype ntype index) text = word (number LF (drop 5 text))
 granted (WRITE caller gpa hpa gtype ntype index value) text = done
 granted (CENSUS asid) text = count (number LF (drop 5 text))
@@ -84,7 +84,7 @@ reply-heard call told is-already = refl
 reply-heard call told is-fixed = refl
 reply-heard call told is-merged = refl
 reply-heard call told is-unmerged = refl
-reply-heard call told is-unfixed = refl
+reply-heard call told (is-unfixed {owner = owner} h) = rw (hex-read LF owner [] (omega arith) h)
 reply-heard call told (is-read {value} h) = rw (hex-read LF value [] (omega arith) h)
 reply-heard call told is-written = refl
 reply-heard call told (is-counted {places} h) = rw (hex-read LF places [] (omega arith) h)

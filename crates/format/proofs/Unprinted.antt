@@ -3,7 +3,7 @@
 use mathlib.Core.Path.{_≡_, refl, ap}
 use mathlib.Core.List.{List, [], _∷_, _++_}
 use Prim.Native.Nat.{ℕ}
-use Rattle.rules.specs.Answers.{Told, refused, done, none, closed, opened, already, word, count}
+use Rattle.rules.specs.Answers.{Told, refused, done, none, closed, opened, already, unfixed, word, count}
 use Rattle.rules.specs.Calls.{Call}
 use Rattle.format.specs.Line.{says, wrong}
 use Rattle.format.specs.Reply.{answered, reply, wrongReply}
@@ -18,6 +18,7 @@ bare-reply call none = refl
 bare-reply call (closed asid gpa) = refl
 bare-reply call opened = refl
 bare-reply call already = refl
+bare-reply call (unfixed owner) = refl
 bare-reply call (word value) = refl
 bare-reply call (count places) = refl
 

@@ -2,7 +2,7 @@
 use mathlib.Core.Path.{_≡_}
 use mathlib.Core.List.{List, [], _∷_, map}
 use Prim.Native.String.{String}
-use Rattle.rules.specs.Answers.{Told, refused, done, none, closed, opened, already, word, count}
+use Rattle.rules.specs.Answers.{Told, refused, done, none, closed, opened, already, unfixed, word, count}
 use Rattle.rules.specs.Calls.{Call, RMPUPDATE, PVALIDATE, PFIX, PMERGE, PUNMERGE, PUNFIX, READ, WRITE, CENSUS}
 use Rattle.rules.specs.Refusals.{alone, BAD-ENTRY}
 use Rattle.format.specs.Ascii.{ascii}
@@ -64,6 +64,8 @@ printedAnswers =
     ∷ answered (PMERGE 0x0 0x1000 0x2000) (refused (alone 16)) "M no 16\n"
     ∷ answered (PUNMERGE 0x0 0x1000 0x4000 0x9) done "D ok\n"
     ∷ answered (PUNFIX 0x0 0x1000) (refused (alone 17)) "X no 17\n"
+    ∷ answered (PUNFIX 0x0 0x1000) (unfixed 0x1ff) "X ok 1ff\n"
+    ∷ answered (PUNFIX 0x0 0x1000) (unfixed 0x0) "X ok 0\n"
     ∷ answered (READ 0x9 0x60000 0x1000 0x2 0x2 0x3) (word 0x2a) "R ok 2a\n"
     ∷ answered (READ 0x9 0x60000 0x1000 0x2 0x2 0x3) (word 0x0) "R ok 0\n"
     ∷ answered (WRITE 0x7 0x50000 0x1000 0x2 0x2 0x3 0x2b) (refused (alone 10)) "W no 10\n"

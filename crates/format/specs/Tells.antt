@@ -3,7 +3,7 @@
 use mathlib.Core.Path.{_≡_}
 use mathlib.Core.List.{List, [], _∷_, map}
 use Prim.Native.Nat.{ℕ}
-use Rattle.rules.specs.Answers.{Told, refused, done, none, closed, opened, already, word, count, outcome}
+use Rattle.rules.specs.Answers.{Told, refused, done, none, closed, opened, already, unfixed, word, count, outcome}
 use Rattle.rules.specs.Calls.{Call}
 use Rattle.rules.specs.History.{Made, made, history}
 use Rattle.rules.specs.Refusals.{alone}
@@ -63,6 +63,7 @@ bare none = none
 bare (closed asid gpa) = closed asid gpa
 bare opened = opened
 bare already = already
+bare (unfixed owner) = unfixed owner
 bare (word value) = word value
 bare (count places) = count places
 

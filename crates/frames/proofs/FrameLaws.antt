@@ -4,18 +4,18 @@
 use mathlib.Core.Path.{_≡_, refl, sym, _∙_}
 use mathlib.Core.List.{List, [], _∷_, append-assoc}
 use mathlib.Core.Logic.{_≢_, ⊎-elim}
-use Prim.Native.Nat.{ℕ, zero, suc, _+_, _-_, _*_, _≤_, _<_}
+use Prim.Native.Nat.{ℕ, suc, _+_, _-_, _*_, _≤_, _<_}
 use native.Mathlib.Omega.{arith}
 use lib.ListN.{length, getD, set, take, drop, length-set, length-drop, length-take, length-replicate, getD-replicate, List·getD-eq-default}
 use lib.Seq.{paste, sets, sets-eq, getD-set-same, getD-set-other, getD-take, getD-drop, length-paste, take-all}
 use borrow.Author.Tests.{lt-ltb, le-ltb, eq-eqb, ne-eqb}
 use borrow.Rule.Slice.PartMut.{putMid, post-is}
 use Rattle.words.specs.Choice.{_and_}
-use Rattle.words.specs.Run.{copied, differing, odd}
+use Rattle.words.specs.Run.{copied, differing}
 use Rattle.words.proofs.ChoiceLaws.{lt-or-le, same-or-not, pick-true, pick-false, and-not}
 use Rattle.words.proofs.ChoiceLaws.{bounds-kept, first-not, second-not, bounds-either}
 use Rattle.words.proofs.RunLaws.{paste-there, paste-before, paste-after, copied-whole, none-differ}
-use Rattle.frames.specs.Frame.{frameCount, isFramed, wordIn, frameIn, zeros, putWord, putFrame, differingIn, oddIn}
+use Rattle.frames.specs.Frame.{frameCount, isFramed, wordIn, frameIn, zeros, putWord, putFrame, differingIn}
 
 -- a frame that memory has is a whole run of it
 frame-whole : (m : List ℕ) (f : ℕ) → f < frameCount m → 512 * f + 512 ≤ length m
@@ -239,18 +239,6 @@ module _ (m : List ℕ) (f g : ℕ) where
       (λ l. sym (frame-word m f i h) ∙ none-differ (frameIn m f) (frameIn m g) 512 (sym (differing-is h k) ∙ e) i l ∙ frame-word m g i k)
       (λ l. word-past m f i l ∙ sym (word-past m g i l))
       (lt-or-le i 512)
-
--- the odd words of a frame: those of its run, and none in a frame that memory does not have
-module _ (m : List ℕ) (f : ℕ) where
-  pub odd-is : f < frameCount m → (n : ℕ) → odd (frameIn m f) n ≡ oddIn m f n
-  unfolding odd oddIn
-  odd-is h zero = refl
-  odd-is h (suc n) = rw (odd-is h n, frame-word m f n h)
-
-  pub odd-outside : frameCount m ≤ f → (n : ℕ) → oddIn m f n ≡ 0
-  unfolding oddIn
-  odd-outside h zero = refl
-  odd-outside h (suc n) = rw (odd-outside h n, word-outside m f n h)
 
 -- words put into a frame one by one, from a place on
 unfoldable pub putWords : List ℕ → ℕ → ℕ → List ℕ → List ℕ

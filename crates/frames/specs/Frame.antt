@@ -2,7 +2,7 @@
 -- above 511, a word reads as zero and a change changes nothing.
 use mathlib.Core.Bool.{Bool}
 use mathlib.Core.List.{List, []}
-use Prim.Native.Nat.{ℕ, zero, suc, _+_, _*_, _/_, _%_}
+use Prim.Native.Nat.{ℕ, _+_, _*_, _/_, _%_}
 use lib.Dec.{ltb, eqb}
 use lib.ListN.{length, getD, set, take, drop, replicate}
 use lib.Seq.{paste}
@@ -46,8 +46,3 @@ differingIn memory one two =
     pick (ltb one (frameCount memory))
     (pick (ltb two (frameCount memory)) (differing (frameIn memory one) (frameIn memory two) 512) 0)
     0
-
--- how many of a frame's first n words are odd
-unfoldable pub oddIn : List ℕ → ℕ → ℕ → ℕ
-oddIn memory frame zero = 0
-oddIn memory frame (suc n) = oddIn memory frame n + wordIn memory frame n % 2

@@ -1,7 +1,7 @@
 // Frames of memory, each a run of 512 words. In a frame that memory does not have whole, and at an index above 511, a word reads as
 // zero and a change changes nothing.
 ghost use mathlib.Core.Path.{_≡_};
-ghost use Rattle.frames.specs.Frame.{frameCount, isFramed, wordIn, frameIn, zeros, putWord, putFrame, differingIn, oddIn};
+ghost use Rattle.frames.specs.Frame.{frameCount, isFramed, wordIn, frameIn, zeros, putWord, putFrame, differingIn};
 use words::run;
 
 // How many whole frames memory has.
@@ -107,18 +107,6 @@ pub fn differing(memory: &[u64], one: usize, two: usize) -> u64
             let b_end = b + 512;
             return run::differing(&memory[a..a_end], &memory[b..b_end]);
         }
-    }
-    0
-}
-
-// How many words of a frame are odd; none where memory does not have it.
-pub fn odd(memory: &[u64], frame: usize) -> u64
-    ensures { λ r. ⌜ r ≡ oddIn (now (memory .entry)) frame 512 ⌝ }
-{
-    if frame < memory.len() / 512 {
-        let start = 512 * frame;
-        let end = start + 512;
-        return run::odd(&memory[start..end]);
     }
     0
 }

@@ -54,6 +54,7 @@ pub fn append_answer(bytes: &mut [u8], filled: usize, answer: Answer) -> usize
         Answer::Closed { asid, gpa } => append_closed(bytes, filled, asid, gpa),
         Answer::Opened => append(bytes, filled, b" ok opened"),
         Answer::Already => append(bytes, filled, b" ok already"),
+        Answer::Unfixed(owner) => append_number(bytes, filled, owner),
         Answer::Word(value) => append_number(bytes, filled, value),
         Answer::Count(number) => append_number(bytes, filled, number),
     }
@@ -69,7 +70,7 @@ fn append_closed(bytes: &mut [u8], filled: usize, asid: u64, gpa: u64) -> usize
     append_hex(bytes, space, gpa)
 }
 
-// The number that READ or CENSUS answers.
+// The number that PUNFIX, READ or CENSUS answers.
 fn append_number(bytes: &mut [u8], filled: usize, number: u64) -> usize
     ensures { λ r. ⌜ buffer (now (bytes .exit)) r ≡ appended (buffer (now (bytes .entry)) filled) (answered (count number)) ⌝ }
 {

@@ -3,16 +3,17 @@
 -- Assumes nothing.
 use mathlib.Core.Bool.{false, true}
 use Prim.Native.Nat.{ℕ}
-use Rattle.entries.specs.Entry.{frameOf}
+use Rattle.frames.specs.Frame.{zeros}
+use Rattle.entries.specs.Entry.{frameOf, zeroEntry, toMoved}
 use Rattle.entries.specs.declared.entry.Entry.{Entry}
-use Rattle.rules.specs.Answers.{Told, refused, done, word, count, Outcome, outcome}
+use Rattle.rules.specs.Answers.{Told, refused, done, unfixed, word, count, Outcome, outcome}
 use Rattle.rules.specs.Assignment.{assigning, updateAnswer, validating, validateAnswer}
 use Rattle.rules.specs.Calls.{Call, RMPUPDATE, PVALIDATE, PFIX, PMERGE, PUNMERGE, PUNFIX, READ, WRITE, CENSUS}
 use Rattle.rules.specs.Merging.{fixing, merging, unmerging, unfixing}
 use Rattle.rules.specs.Reasons.{framesOf}
 use Rattle.rules.specs.Refusals.{Refusal}
-use Rattle.rules.specs.State.{State, wordAt, withWord}
-use Rattle.rules.proofs.Passed.{Updated, Validated, Fixed, Merged, Unmerged, Unfixed, Accessed, Counted}
+use Rattle.rules.specs.State.{State, wordAt, withWord, withFrame}
+use Rattle.rules.proofs.Passed.{Updated, Validated, Fixed, Merged, Unmerged, Unfixed, Freed, Accessed, Counted}
 use Rattle.rules.proofs.Cause.{Cause}
 
 pub data Accepted (s : State) : Call → Told → State → Type 0 where
@@ -32,8 +33,11 @@ pub data Accepted (s : State) : Call → Told → State → Type 0 where
       {caller hpa1 hpa2 asid : ℕ} {one two : Entry} {gpa : ℕ} → Unmerged s caller hpa1 hpa2 asid one two gpa
       → Accepted s (PUNMERGE caller hpa1 hpa2 asid) done (unmerging s (frameOf hpa1) one (frameOf hpa2) asid gpa)
   by-unfix :
-      {caller hpa : ℕ} {old : Entry} {gpa : ℕ} → Unfixed s caller hpa old gpa
-      → Accepted s (PUNFIX caller hpa) done (unfixing s (frameOf hpa) old gpa)
+      {caller hpa : ℕ} {old : Entry} {guest gpa : ℕ} → Unfixed s caller hpa old guest gpa
+      → Accepted s (PUNFIX caller hpa) (unfixed guest) (unfixing s (frameOf hpa) old (toMoved old guest gpa))
+  by-free :
+      {caller hpa : ℕ} {old : Entry} → Freed s caller hpa old
+      → Accepted s (PUNFIX caller hpa) (unfixed 0) (unfixing (withFrame s (frameOf hpa) zeros) (frameOf hpa) old zeroEntry)
   by-read :
       {caller gpa hpa gtype ntype index : ℕ} → Accessed s false caller gpa hpa gtype ntype index
       → Accepted s (READ caller gpa hpa gtype ntype index) (word (wordAt s (frameOf hpa) index)) s

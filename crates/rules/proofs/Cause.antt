@@ -5,6 +5,7 @@
 use mathlib.Core.Path.{_≡_, refl, _∙_}
 use mathlib.Core.Bool.{Bool, true, false≢true, not, _&&_}
 use mathlib.Core.List.{List, [], _∷_, _++_}
+use mathlib.Core.Logic.{inl}
 use Prim.Native.Nat.{ℕ, zero, suc, _<_, _≤_}
 use native.Mathlib.Omega.{arith}
 use lib.Dec.{leb, eqb}
@@ -20,6 +21,7 @@ use Rattle.rules.specs.Reasons.{rising, firstReason}
 use Rattle.rules.specs.Refusals.{Refusal, alone, BAD-ENTRY, BROKEN-LEAF, STILL-SHARED}
 use Rattle.rules.specs.State.{State, N, entryAt}
 use Rattle.rules.proofs.FirstReason.{named-bad, named-good, none-before, some-before}
+use Rattle.rules.proofs.Leaves.{Broken}
 use Rattle.rules.proofs.StateLaws.{entry-reason}
 
 -- what is wrong with a state that gives 5 or 12 to a call of these frames
@@ -28,7 +30,7 @@ pub data Fault (s : State) (frames : List ℕ) : Refusal → Type 0 where
       (f reason : ℕ) → f < N s → entryAt s f ≡ Bad reason → firstReason s frames ≡ reason
       → Fault s frames (BAD-ENTRY reason)
   broken-leaf :
-      (f : ℕ) (e : Entry) (guest : ℕ) → entryAt s f ≡ Good e → e .fixed ≡ true → consulted s e guest ≡ Misshapen
+      (f : ℕ) (e : Entry) (index : ℕ) → entryAt s f ≡ Good e → e .fixed ≡ true → Broken index (consulted s e index)
       → Fault s frames BROKEN-LEAF
 
 -- a number up to the last, other than those two. It computes at a number that is written out, so that `refl` shows it.
@@ -60,7 +62,7 @@ module _ (s : State) (r : Refusal) where
     entry-fails : (d : Decoded) → entryAt s f ≡ d → inEntry s guest d ≡ fails r → Fault s frames r
     unfolding inEntry
     entry-fails (Good e) here h =
-        pick-either (λ held. held ≡ fails r → Fault s frames r) _ _ _ (λ fixed. leaf-fails _ (broken-leaf f e guest here fixed))
+        pick-either (λ held. held ≡ fails r → Fault s frames r) _ _ _ (λ fixed. leaf-fails _ (λ broken. broken-leaf f e guest here fixed (inl broken)))
         (λ unfixed.
         pick-either (λ held. held ≡ fails r → Fault s frames r) _ _ _
         (λ own u. absurd (false≢true (cc))) (λ other u. absurd (false≢true (cc)))) h

@@ -3,7 +3,7 @@
 -- Assumes nothing.
 use mathlib.Core.Path.{_≡_, sym, _∙_}
 use mathlib.Core.Bool.{true, false≢true}
-use mathlib.Core.Logic.{_≢_}
+use mathlib.Core.Logic.{_≢_, inl}
 use Prim.Native.Nat.{ℕ}
 use native.Mathlib.Omega.{arith}
 use borrow.Author.Tests.{eqb-false}
@@ -14,20 +14,20 @@ use Rattle.entries.specs.declared.leaf.LeafWord.the-variants.{Absent, Present}
 use Rattle.entries.proofs.LeafLaws.{leaf-present, leaf-absent}
 use Rattle.rules.specs.Assignment.{assigning, validating}
 use Rattle.rules.specs.Leaves.{leafFrame, isLeaf, consulted}
-use Rattle.rules.specs.Merging.{fixing, merging, unmerging, unfixing}
+use Rattle.rules.specs.Merging.{fixing, merging, unmerging}
 use Rattle.rules.specs.State.{State, entryAt, withWord}
 use Rattle.rules.proofs.ArgumentLaws.{validate-tells, two-addresses}
-use Rattle.rules.proofs.Effects.{assigning-does, validating-does, fixing-does, merging-does, unmerging-does, unfixing-does}
+use Rattle.rules.proofs.Effects.{assigning-does, validating-does, fixing-does, merging-does, unmerging-does, Unfixes}
 use Rattle.rules.proofs.Leaves.{consulted-same, consulted-is, is-a-leaf, leaf-apart, not-a-leaf, owned-no-leaf, leaf-inside}
 use Rattle.rules.proofs.Leaves.{unused-leaf}
-use Rattle.rules.proofs.Passed.{Updated, Validated, Fixed, Merged, Unmerged, Unfixed, Way, above, shared, own, merged}
+use Rattle.rules.proofs.Passed.{Updated, Validated, Fixed, Merged, Unmerged, Unfixing, Way, above, shared, own, merged}
 use Rattle.rules.proofs.Sound.{Sound}
 use Rattle.rules.proofs.StateLaws.{entry-tells, entry-after-word, word-elsewhere}
 
 module _ {s : State} (sound : Sound s) (g : ℕ) {d : Entry} (page : entryAt s g ≡ Good d) (fixed : d .fixed ≡ true) where
   -- the leaf of a fixed page is no frame of another type
   leaf-off : (f : ℕ) {e : Entry} → entryAt s f ≡ Good e → e .kind ≢ LEAF → leafFrame d ≢ f
-  leaf-off f here other = leaf-apart s _ f (is-a-leaf s d 0 (sound .unbroken g d 0 page fixed)) here other
+  leaf-off f here other = leaf-apart s _ f (is-a-leaf s d 0 (λ broken. sound .unbroken g d 0 page fixed (inl broken))) here other
 
   -- nor the leaf of another fixed page
   leaf-own : (f : ℕ) {e : Entry} → entryAt s f ≡ Good e → e .fixed ≡ true → g ≢ f → leafFrame d ≢ leafFrame e
@@ -77,13 +77,12 @@ module _ {s : State} (sound : Sound s) (g : ℕ) {d : Entry} (page : entryAt s g
         consulted-same s _ d guest (e .put .elsewhere _ off) (e .words _ _ off (leaf-own _ (p .here1) (p .fixed1) apart))
 
     pub unfixed-consulted :
-        {caller hpa : ℕ} {old : Entry} {gpa : ℕ} → Unfixed s caller hpa old gpa → g ≢ frameOf hpa
-        → consulted (unfixing s (frameOf hpa) old gpa) d guest ≡ consulted s d guest
-    unfixed-consulted p apart =
-        let e = unfixing-does p in
+        {caller hpa : ℕ} {old e : Entry} {u : State} → Unfixing s caller hpa old → Unfixes s u (frameOf hpa) (leafFrame old) e
+        → g ≢ frameOf hpa → consulted u d guest ≡ consulted s d guest
+    unfixed-consulted p e apart =
         let off = leaf-off _ (p .here) (not-a-leaf MERGEABLE (p .type) (omega arith)) in
         let own = leaf-own _ (p .here) (p .fixed) apart in
-        consulted-same s _ d guest (e .elsewhere _ off own) (e .words _ _ own)
+        consulted-same s _ d guest (e .elsewhere _ off own) (e .words _ _ off own)
 
   -- a write goes to no leaf
   write-off : {caller gpa f gtype : ℕ} → Way s true caller gpa f gtype → leafFrame d ≢ f

@@ -12,18 +12,18 @@ use Rattle.words.specs.Choice.{pick, _or_}
 use Rattle.words.proofs.ChoiceLaws.{pick-either}
 use Rattle.frames.specs.Frame.{zeros}
 use Rattle.entries.specs.Entry.{SHARED, MERGEABLE, frameOf, isOwned, isUnowned, entry, zeroEntry, WellFormed, toValidated, toFixed}
-use Rattle.entries.specs.Entry.{toUnfixed}
+use Rattle.entries.specs.Entry.{toMoved}
 use Rattle.entries.specs.Leaf.{presentAt}
 use Rattle.entries.specs.declared.entry.Entry.{Entry}
 use Rattle.entries.specs.declared.entry.Decoded.the-variants.{Good}
-use Rattle.entries.proofs.Tells.{page-fits, fixed-fits, unowned-fits, guest-range}
+use Rattle.entries.proofs.Tells.{page-fits, fixed-fits, unowned-fits, guest-range, moved-is}
 use Rattle.rules.specs.Assignment.{assigning, validating}
 use Rattle.rules.specs.Leaves.{leafFrame, isLeaf}
 use Rattle.rules.specs.Merging.{fixing, merging, unmerging, unfixing}
 use Rattle.rules.specs.State.{State, N, M, entryAt, wordAt, frameAt, withEntry, withWord, withFrame}
 use Rattle.rules.proofs.ArgumentLaws.{update-fits, validate-tells, two-addresses, unmerge-tells}
 use Rattle.rules.proofs.Leaves.{is-a-leaf, consulted-address, leaf-apart, not-a-leaf, leaf-inside, from-absent, from-present}
-use Rattle.rules.proofs.Passed.{Updated, Validated, Fixed, Merged, Unmerged, Unfixed}
+use Rattle.rules.proofs.Passed.{Updated, Validated, Fixed, Merged, Unmerged, Unfixing, Unfixed, Freed}
 use Rattle.rules.proofs.StateLaws.{SameSize, size-refl, size-trans, size-entry, size-word, size-frame, sizes}
 use Rattle.rules.proofs.StateLaws.{entry-tells, entry-after-entry, entry-elsewhere, entry-after-word, entry-after-frame}
 use Rattle.rules.proofs.StateLaws.{word-after-entry, word-after-word, word-elsewhere, word-beside}
@@ -118,7 +118,7 @@ module _ {s : State} {caller gpa hpa kind : ℕ} {old : Entry} (p : Validated s 
       })
 
 -- ---- PFIX
-mergeable-owned : (kind : ℕ) → kind ≡ MERGEABLE → isOwned kind ≡ true
+pub mergeable-owned : (kind : ℕ) → kind ≡ MERGEABLE → isOwned kind ≡ true
 unfolding isOwned _or_
 mergeable-owned kind h = rw h
 
@@ -222,48 +222,68 @@ module _ {s : State} {caller hpa1 hpa2 asid : ℕ} {one two : Entry} {gpa : ℕ}
         leaf-words = λ i other. word-beside moved _ _ _ _ i other ∙ word-after-entry copy _ e _ i ∙ word-beside-frame s _ _ _ i apart;
       }
 
+-- both ways of PUNFIX: the page's entry is another, and the leaf is nobody's
 pub record Unfixes (s u : State) (f leaf : ℕ) (e : Entry) : Type 0 where
   pub same-size : SameSize s u
-  pub is-leaf : isLeaf (entryAt s leaf) ≡ true
   pub apart : leaf ≢ f
   pub here : entryAt u f ≡ Good e
   pub leaf-here : entryAt u leaf ≡ Good zeroEntry
   pub elsewhere : (g : ℕ) → g ≢ f → g ≢ leaf → entryAt u g ≡ entryAt s g
-  pub words : (g i : ℕ) → g ≢ leaf → wordAt u g i ≡ wordAt s g i
-  pub zeroed : (i : ℕ) → wordAt u leaf i ≡ 0
+  pub words : (g i : ℕ) → g ≢ f → g ≢ leaf → wordAt u g i ≡ wordAt s g i
+  pub leaf-zeroed : (i : ℕ) → wordAt u leaf i ≡ 0
 
-unfixed-is :
-    (e : Entry) (gpa : ℕ) → e .kind ≡ MERGEABLE → e .validated ≡ true → toUnfixed e gpa ≡ entry (e .asid) MERGEABLE true false gpa
-unfolding toUnfixed
-unfixed-is e gpa k v = rw (k, v)
+module _ {s : State} {caller hpa : ℕ} {old : Entry} (p : Unfixing s caller hpa old) where
+  unfix-apart : leafFrame old ≢ frameOf hpa
+  unfix-apart = leaf-apart s _ _ (p .is-leaf) (p .here) (not-a-leaf MERGEABLE (p .type) (omega arith))
 
-module _ {s : State} {caller hpa : ℕ} {old : Entry} {gpa : ℕ} (p : Unfixed s caller hpa old gpa) where
-  pub unfixing-does :
-      Unfixes s (unfixing s (frameOf hpa) old gpa) (frameOf hpa) (leafFrame old) (entry (old .asid) MERGEABLE true false gpa)
-  unfolding unfixing
-  unfixing-does =
-      let inside = leaf-inside s _ (p .here) (p .fixed) in
-      let t = entry-tells s _ (p .here) in
-      let is-leaf = is-a-leaf s old (old .asid) (from-present (p .place)) in
-      let apart = leaf-apart s _ _ is-leaf (p .here) (not-a-leaf MERGEABLE (p .type) (omega arith)) in
-      let address = consulted-address s old (old .asid) gpa (p .place) in
-      let some = t .owned-asid (mergeable-owned _ (p .type)) in
-      let fits = page-fits (N s) (old .asid) MERGEABLE true gpa (mergeable-owned _ refl) some (t .asid-small) address in
-      let e = entry (old .asid) MERGEABLE true false gpa in
-      let first = put-after (nothing-yet s) (frameOf hpa) e (p .inside) fits in
-      let paged = withEntry s (frameOf hpa) e in
-      let n : N paged ≡ N s = size-entry s _ e .same-N in
-      let below : leafFrame old < N paged = rw n inside in
-      let freed = put-after (nothing-yet paged) (leafFrame old) zeroEntry below (zero-fits (N paged)) in
-      let second = put-before (leafFrame old) zeroEntry freed (memory-frame _ (leafFrame old) zeros) in
-      rw (unfixed-is old gpa (p .type) (t .fixed-validated (p .fixed)))
-      (record {
-        same-size = size-trans (first .same-size) (second .same-size);
-        is-leaf = is-leaf;
-        apart = apart;
-        here = second .elsewhere _ (λ same. apart (sym same)) ∙ first .here;
-        leaf-here = second .here;
-        elsewhere = λ g other off. second .elsewhere g off ∙ first .elsewhere g other;
-        words = λ g i off. word-beside-frame _ _ _ g i off ∙ word-after-entry paged _ zeroEntry g i ∙ word-after-entry s _ e g i;
-        zeroed = λ i. word-after-zeros _ _ i;
-      })
+  -- after memory changed in the page alone
+  module _ {v : State} (m : MemoryOnly s v) (words : (g i : ℕ) → g ≢ frameOf hpa → wordAt v g i ≡ wordAt s g i) (e : Entry)
+      (fits : WellFormed (N s) e) where
+    abbrev paged : State
+    paged = withEntry v (frameOf hpa) e
+
+    unfixed-words : (g i : ℕ) → g ≢ leafFrame old → wordAt (unfixing v (frameOf hpa) old e) g i ≡ wordAt v g i
+    unfolding unfixing
+    unfixed-words g i off = word-beside-frame _ _ _ g i off ∙ word-after-entry paged _ zeroEntry g i ∙ word-after-entry v _ e g i
+
+    unfixing-does : Unfixes s (unfixing v (frameOf hpa) old e) (frameOf hpa) (leafFrame old) e
+    unfolding unfixing
+    unfixing-does =
+        let first = put-after m (frameOf hpa) e (p .inside) fits in
+        let below : leafFrame old < N paged = rw (first .same-size .same-N) (leaf-inside s _ (p .here) (p .fixed)) in
+        let freed = put-after (nothing-yet paged) (leafFrame old) zeroEntry below (zero-fits (N paged)) in
+        let second = put-before (leafFrame old) zeroEntry freed (memory-frame _ (leafFrame old) zeros) in
+        record {
+          same-size = size-trans (first .same-size) (second .same-size);
+          apart = unfix-apart;
+          here = second .elsewhere _ (λ same. unfix-apart (sym same)) ∙ first .here;
+          leaf-here = second .here;
+          elsewhere = λ g other off. second .elsewhere g off ∙ first .elsewhere g other;
+          words = λ g i other off. unfixed-words g i off ∙ words g i other;
+          leaf-zeroed = λ i. word-after-zeros _ _ i;
+        }
+
+-- to the one guest that is left: its page keeps its words
+module _ {s : State} {caller hpa : ℕ} {old : Entry} {guest gpa : ℕ} (p : Unfixed s caller hpa old guest gpa) where
+  given-fits : WellFormed (N s) (toMoved old guest gpa)
+  given-fits =
+      let range = guest-range guest (p .range) in
+      let address = consulted-address s old guest gpa (p .place) in
+      rw (moved-is (N s) old guest gpa (entry-tells s _ (p .page .here)) (p .page .fixed))
+      (page-fits (N s) guest MERGEABLE true gpa (mergeable-owned _ refl) (range .0) (omega arith) address)
+
+  pub given-does :
+      Unfixes s (unfixing s (frameOf hpa) old (toMoved old guest gpa)) (frameOf hpa) (leafFrame old) (toMoved old guest gpa)
+  given-does = unfixing-does (p .page) (nothing-yet s) (λ g i other. refl) (toMoved old guest gpa) given-fits
+
+  pub given-words : (i : ℕ) → wordAt (unfixing s (frameOf hpa) old (toMoved old guest gpa)) (frameOf hpa) i ≡ wordAt s (frameOf hpa) i
+  given-words i =
+      unfixed-words (p .page) (nothing-yet s) (λ g i other. refl) (toMoved old guest gpa) given-fits _ i
+      (λ same. unfix-apart (p .page) (sym same))
+
+-- to nobody: the page is zeroed
+module _ {s : State} {caller hpa : ℕ} {old : Entry} (p : Freed s caller hpa old) where
+  pub freeing-does :
+      Unfixes s (unfixing (withFrame s (frameOf hpa) zeros) (frameOf hpa) old zeroEntry) (frameOf hpa) (leafFrame old) zeroEntry
+  freeing-does =
+      unfixing-does (p .page) (memory-frame s (frameOf hpa) zeros) (λ g i other. word-beside-frame s _ _ g i other) zeroEntry (zero-fits (N s))

@@ -1,13 +1,13 @@
--- Leaves: when the word consulted stays, that it comes from a LEAF unless it is broken, that a LEAF is no other frame, and what the tests
--- of 15 and 17 tell when they fail: no fixed page names this leaf, and no other guest has a place there.
+-- Leaves: when the word consulted stays, that it comes from a LEAF unless it is broken, that a LEAF is no other frame, and what the test
+-- of 15 tells when it fails: no fixed page names this leaf.
 -- Assumes nothing.
 use mathlib.Core.Path.{_≡_, refl, sym, _∙_}
 use mathlib.Core.Bool.{Bool, true, false, false≢true}
-use mathlib.Core.Logic.{_≢_, ⊎-elim}
-use Prim.Native.Nat.{ℕ, zero, suc, _%_, _<_}
+use mathlib.Core.Logic.{_≢_, _⊎_, inl, inr, ⊎-elim}
+use Prim.Native.Nat.{ℕ, zero, suc, _<_, _≤_}
 use native.Mathlib.Omega.{arith}
 use lib.Dec.{eqb}
-use borrow.Author.Tests.{eqb-true, eqb-false, eq-eqb, ne-eqb}
+use borrow.Author.Tests.{eqb-true, eq-eqb}
 use Rattle.words.specs.Choice.{pick, _and_, _or_}
 use Rattle.words.proofs.ChoiceLaws.{same-or-not, pick-true, pick-false}
 use Rattle.entries.specs.Entry.{SHARED, PRIVATE, MERGEABLE, LEAF, frameOf, isAddress, isOwned}
@@ -19,9 +19,9 @@ use Rattle.entries.specs.declared.leaf.LeafWord.{LeafWord}
 use Rattle.entries.specs.declared.leaf.LeafWord.the-variants.{Absent, Present, Misshapen}
 use Rattle.entries.proofs.LeafLaws.{address-whole, present-address}
 use Rattle.entries.proofs.Tells.{owned-kinds}
-use Rattle.rules.specs.Leaves.{leafFrame, isLeaf, consulted, namesLeaf, leafInUse, isSharedBy, stillShared}
-use Rattle.rules.specs.State.{State, N, entryAt, wordAt}
-use Rattle.rules.proofs.StateLaws.{entry-inside, entry-tells}
+use Rattle.rules.specs.Leaves.{leafFrame, isLeaf, consulted, namesLeaf, leafInUse}
+use Rattle.rules.specs.State.{State, N, M, sized, entryAt, wordAt}
+use Rattle.rules.proofs.StateLaws.{sizes, entry-inside, entry-tells}
 
 -- ---- the word consulted
 pub consulted-same :
@@ -48,12 +48,28 @@ module _ (s : State) (page : Entry) (guest : ℕ) where
       let leaf = is-a-leaf (λ k. absurd (false≢true (cc))) in
       present-address _ gpa (sym (consulted-is leaf) ∙ h)
 
+  pub no-leaf : isLeaf (entryAt s (leafFrame page)) ≡ false → consulted s page guest ≡ Misshapen
+  unfolding consulted
+  no-leaf h = pick-false _ _ h
+
 -- a word that is absent or present is not broken
 pub from-absent : {w : LeafWord} → w ≡ Absent → w ≡ Misshapen → ⊥
 from-absent h k = absurd (false≢true (cc))
 
 pub from-present : {w : LeafWord} {gpa : ℕ} → w ≡ Present gpa → w ≡ Misshapen → ⊥
 from-present h k = absurd (false≢true (cc))
+
+-- what no word of a leaf in use may be: misshapen, or at index 0 and not absent
+abbrev pub Broken : ℕ → LeafWord → Type 0
+Broken index w = (w ≡ Misshapen) ⊎ ((index ≡ 0) × (w ≢ Absent))
+
+pub whole-absent : {index : ℕ} {w : LeafWord} → w ≡ Absent → Broken index w → ⊥
+whole-absent h (inl broken) = from-absent h broken
+whole-absent h (inr host) = host .1 h
+
+pub whole-present : {index : ℕ} {w : LeafWord} {gpa : ℕ} → 1 ≤ index → w ≡ Present gpa → Broken index w → ⊥
+whole-present some h (inl broken) = from-present h broken
+whole-present some h (inr host) = let zero-is = host .0 in absurd (omega arith)
 
 -- ---- a LEAF is a good entry of its own type, and no frame of another type
 pub leaf-good : (d : Decoded) → isLeaf d ≡ true → (e : Entry) × ((d ≡ Good e) × (e .kind ≡ LEAF))
@@ -81,6 +97,14 @@ shared-unowned k o = ⊎-elim (λ h. let z : ⊥ = omega arith in absurd z) (λ 
 pub leaf-inside : (s : State) (f : ℕ) {page : Entry} → entryAt s f ≡ Good page → page .fixed ≡ true → leafFrame page < N s
 unfolding leafFrame
 leaf-inside s f here fixed = entry-tells s f here .fixed-leaf fixed
+
+-- and in memory
+pub leaf-has :
+    (s : State) (f : ℕ) {page : Entry} → sized s ≡ true → entryAt s f ≡ Good page → page .fixed ≡ true → leafFrame page < M s
+leaf-has s f size here fixed =
+    let inside = leaf-inside s f here fixed in
+    let least = sizes s size .memory-least in
+    omega arith
 
 -- ---- 15: a leaf that is not in use
 not-named : (s t : Bool) → s or t ≡ false → (s ≡ false) × (t ≡ false)
@@ -113,22 +137,3 @@ unfolding leafFrame
 unused-leaf s leaf f free address here fixed same =
     unused-below s leaf (N s) f _ free (entry-inside s f here) here fixed
     (same-frame _ _ (entry-tells s f here .address-fits) address same)
-
--- ---- 17: a leaf that no other guest shares
-even-absent : (w : ℕ) → eqb (w % 2) 1 ≡ false → leafWord w ≡ Absent
-unfolding leafWord
-even-absent w h = let odd = eqb-false (w % 2) 1 h in pick-true _ _ (eq-eqb (w % 2) 0 (omega (arith, odd)))
-
-shared-not : (owner guest w : ℕ) → guest ≢ owner → isSharedBy owner guest w ≡ false → leafWord w ≡ Absent
-unfolding isSharedBy _and_
-shared-not owner guest w other h = even-absent w (rw (← h, ne-eqb _ _ other))
-
-pub unshared-word :
-    (s : State) (frame owner n guest : ℕ) → stillShared s frame owner n ≡ false → guest < n → guest ≢ owner
-    → leafWord (wordAt s frame guest) ≡ Absent
-unfolding stillShared
-unshared-word s frame owner zero guest free below other = let z : ⊥ = omega arith in absurd z
-unshared-word s frame owner (suc n) guest free below other =
-    ⊎-elim (λ same. rw same (shared-not owner n _ (rw (← same) other) (not-named _ _ free .1)))
-    (λ apart. unshared-word s frame owner n guest (not-named _ _ free .0) (omega (arith, apart)) other)
-    (same-or-not guest n)

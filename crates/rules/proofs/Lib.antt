@@ -21,6 +21,7 @@ pub mod Never
 pub mod Passed
 pub mod PlaceChanges
 pub mod PlaceLaws
+pub mod Present
 pub mod Sound
 pub mod SoundSteps
 pub mod StateLaws

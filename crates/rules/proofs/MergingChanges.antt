@@ -1,4 +1,4 @@
--- PFIX and PUNFIX move no place of any guest; PMERGE and PUNMERGE move one place of one guest, to a frame with the same words.
+-- PFIX and PUNFIX leave every place in its frame; PMERGE and PUNMERGE move one place of one guest, to a frame with the same words.
 -- Assumes nothing.
 use mathlib.Core.Path.{_≡_, refl, sym, _∙_}
 use mathlib.Core.Bool.{true, false}
@@ -6,26 +6,29 @@ use mathlib.Core.Logic.{_≢_, ⊎-elim}
 use Prim.Native.Nat.{ℕ}
 use native.Mathlib.Omega.{arith}
 use Rattle.words.proofs.ChoiceLaws.{same-or-not}
-use Rattle.entries.specs.Entry.{SHARED, MERGEABLE, frameOf, isGuest, entry, zeroEntry}
+use Rattle.frames.specs.Frame.{zeros}
+use Rattle.entries.specs.Entry.{SHARED, MERGEABLE, frameOf, isGuest, entry, zeroEntry, toMoved}
 use Rattle.entries.specs.declared.entry.Entry.{Entry}
 use Rattle.entries.proofs.Tells.{guest-range, false-not-true}
 use Rattle.rules.specs.Census.{holds, nothing, holding}
 use Rattle.rules.specs.History.{noEvent}
 use Rattle.rules.specs.Leaves.{leafFrame, isLeaf}
 use Rattle.rules.specs.Merging.{fixing, merging, unmerging, unfixing}
-use Rattle.rules.specs.State.{State, entryAt, wordAt}
+use Rattle.rules.specs.State.{State, entryAt, wordAt, withFrame}
 use Rattle.rules.proofs.Changes.{Change}
 use Rattle.rules.proofs.Consulted.{fixed-consulted, merged-consulted, unmerged-consulted, unfixed-consulted, fixed-owner}
 use Rattle.rules.proofs.Consulted.{fixed-others, merged-here, merged-others, unmerged-here, unmerged-others}
-use Rattle.rules.proofs.Effects.{Fixes, fixing-does, Merges, merging-does, Unmerges, unmerging-does, Unfixes, unfixing-does}
+use Rattle.rules.proofs.Effects.{Fixes, fixing-does, Merges, merging-does, Unmerges, unmerging-does, Unfixes, given-does}
+use Rattle.rules.proofs.Effects.{given-words, freeing-does}
 use Rattle.rules.proofs.Holdings.{present-there, absent-there, holding-same, unopened, of-another, of-its-own, nobodys}
 use Rattle.rules.proofs.Holdings.{leaf-nothing}
-use Rattle.rules.proofs.Leaves.{consulted-is, unshared-word, shared-unowned}
-use Rattle.rules.proofs.Passed.{Fixed, Merged, Unmerged, Unfixed}
+use Rattle.rules.proofs.Leaves.{consulted-is, leaf-has, shared-unowned}
+use Rattle.rules.proofs.Passed.{Fixed, Merged, Unmerged, Unfixing, Unfixed, Freed}
 use Rattle.rules.proofs.PlaceChanges.{stays, moves}
 use Rattle.rules.proofs.PlaceLaws.{place-apart}
+use Rattle.rules.proofs.Present.{none-present, others-absent}
 use Rattle.rules.proofs.Sound.{Sound}
-use Rattle.rules.proofs.StateLaws.{sizes, equal-words, same-good}
+use Rattle.rules.proofs.StateLaws.{sizes, entry-tells, equal-words, same-good}
 
 -- ---- PFIX
 module _ {s : State} (sound : Sound s) {caller hpa leaf : ℕ} {before : Entry} (p : Fixed s caller hpa leaf before) (guest : ℕ) where
@@ -59,45 +62,82 @@ module _ {s : State} (sound : Sound s) {caller hpa leaf : ℕ} {before : Entry} 
       (same-or-not f (frameOf hpa)))
       (λ f at i h. fix-effect .words f i (place-apart s guest at f _ h (leaf-nothing s guest _ (p .is-leaf))))
 
--- ---- PUNFIX
-module _ {s : State} (sound : Sound s) {caller hpa : ℕ} {before : Entry} {gpa : ℕ} (p : Unfixed s caller hpa before gpa) (guest : ℕ)
-    (range : isGuest guest ≡ true) where
-  abbrev unfixedNow : State
-  unfixedNow = unfixing s (frameOf hpa) before gpa
+-- ---- PUNFIX: both ways, where the page is to the guest what it was
+module _ {s : State} (sound : Sound s) {caller hpa : ℕ} {before e : Entry} {u : State} (p : Unfixing s caller hpa before)
+    (x : Unfixes s u (frameOf hpa) (leafFrame before) e) (guest : ℕ)
+    (here : holding u guest (frameOf hpa) ≡ holding s guest (frameOf hpa))
+    (kept : (at i : ℕ) → holding s guest (frameOf hpa) ≡ holds at → wordAt u (frameOf hpa) i ≡ wordAt s (frameOf hpa) i) where
+  leaf-left : holding u guest (leafFrame before) ≡ holding s guest (leafFrame before)
+  unfolding zeroEntry entry
+  leaf-left = unopened u guest _ (x .leaf-here) refl refl ∙ sym (leaf-nothing s guest _ (p .is-leaf))
 
-  unfix-effect : Unfixes s unfixedNow (frameOf hpa) (leafFrame before) (entry (before .asid) MERGEABLE true false gpa)
-  unfix-effect = unfixing-does p
+  unfix-words : (f at i : ℕ) → holding s guest f ≡ holds at → wordAt u f i ≡ wordAt s f i
+  unfix-words f at i h =
+      ⊎-elim (λ page. rw page (kept at i (rw page at h)))
+      (λ other. x .words f i other (place-apart s guest at f _ h (leaf-nothing s guest _ (p .is-leaf))))
+      (same-or-not f (frameOf hpa))
 
-  -- no other guest has a word there
-  unfixed-here : holding unfixedNow guest (frameOf hpa) ≡ holding s guest (frameOf hpa)
-  unfolding entry
-  unfixed-here =
+  unfix-stays : Change s u noEvent guest
+  unfix-stays =
+      stays s u guest (x .same-size .same-N)
+      (λ f. ⊎-elim (λ page. rw page here)
+      (λ other. ⊎-elim (λ leaf. rw leaf leaf-left)
+      (λ off. holding-same s u guest f (x .elsewhere f other off)
+      (λ e there fixed. unfixed-consulted sound f there fixed guest p x other))
+      (same-or-not f (leafFrame before)))
+      (same-or-not f (frameOf hpa)))
+      unfix-words
+
+-- the one guest that is left has its place by its word in the leaf before, and by the page's entry after; no other guest has one there
+module _ {s : State} (sound : Sound s) {caller hpa : ℕ} {before : Entry} {owner gpa : ℕ} (p : Unfixed s caller hpa before owner gpa)
+    (guest : ℕ) (range : isGuest guest ≡ true) where
+  abbrev givenNow : State
+  givenNow = unfixing s (frameOf hpa) before (toMoved before owner gpa)
+
+  no-other : owner ≢ guest → holding s guest (frameOf hpa) ≡ nothing
+  no-other other =
+      let page = p .page in
+      let few = p .one-left in
+      let small = guest-range guest range .1 in
+      let has = leaf-has s _ (page .size) (page .here) (page .fixed) in
+      absent-there s guest _ (page .here) (page .fixed)
+      (consulted-is s before guest (page .is-leaf)
+      ∙ others-absent s _ has (omega arith) guest (omega arith) (λ same. other (sym (same ∙ p .last))))
+
+  given-here : holding givenNow guest (frameOf hpa) ≡ holding s guest (frameOf hpa)
+  unfolding toMoved entry
+  given-here =
+      let page = p .page in
+      let validated = entry-tells s _ (page .here) .fixed-validated (page .fixed) in
       ⊎-elim
       (λ own.
       rw (← own)
-      (of-its-own unfixedNow _ _ (unfix-effect .here) refl refl refl
-      ∙ sym (present-there s _ _ (p .here) (p .fixed) gpa (p .place))))
-      (λ other.
-      let small = guest-range guest range .1 in
-      of-another unfixedNow guest _ (unfix-effect .here) refl other
-      ∙ sym (absent-there s guest _ (p .here) (p .fixed)
-      (consulted-is s before guest (unfix-effect .is-leaf)
-      ∙ unshared-word s _ (before .asid) 512 guest (p .unshared) (omega arith) (λ same. other (sym same)))))
-      (same-or-not (before .asid) guest)
+      (of-its-own givenNow _ _ (given-does p .here) refl validated refl ∙ sym (present-there s _ _ (page .here) (page .fixed) gpa (p .place))))
+      (λ other. of-another givenNow guest _ (given-does p .here) refl other ∙ sym (no-other other))
+      (same-or-not owner guest)
 
-  pub unfix-change : Change s unfixedNow noEvent guest
+  pub unfix-change : Change s givenNow noEvent guest
+  unfix-change = unfix-stays sound (p .page) (given-does p) guest given-here (λ at i h. given-words p i)
+
+-- nobody has a place in a page that is freed
+module _ {s : State} (sound : Sound s) {caller hpa : ℕ} {before : Entry} (p : Freed s caller hpa before) (guest : ℕ)
+    (range : isGuest guest ≡ true) where
+  abbrev freedNow : State
+  freedNow = unfixing (withFrame s (frameOf hpa) zeros) (frameOf hpa) before zeroEntry
+
+  nobody : holding s guest (frameOf hpa) ≡ nothing
+  nobody =
+      let page = p .page in
+      let small = guest-range guest range .1 in
+      let has = leaf-has s _ (page .size) (page .here) (page .fixed) in
+      absent-there s guest _ (page .here) (page .fixed)
+      (consulted-is s before guest (page .is-leaf) ∙ none-present s _ has (p .none-left) guest (omega arith))
+
+  pub free-change : Change s freedNow noEvent guest
   unfolding zeroEntry entry
-  unfix-change =
-      stays s unfixedNow guest (unfix-effect .same-size .same-N)
-      (λ f. ⊎-elim (λ here. rw here unfixed-here)
-      (λ other. ⊎-elim
-      (λ at. rw at (unopened unfixedNow guest _ (unfix-effect .leaf-here) refl refl
-      ∙ sym (leaf-nothing s guest _ (unfix-effect .is-leaf))))
-      (λ off. holding-same s unfixedNow guest f (unfix-effect .elsewhere f other off)
-      (λ e here fixed. unfixed-consulted sound f here fixed guest p other))
-      (same-or-not f (leafFrame before)))
-      (same-or-not f (frameOf hpa)))
-      (λ f at i h. unfix-effect .words f i (place-apart s guest at f _ h (leaf-nothing s guest _ (unfix-effect .is-leaf))))
+  free-change =
+      unfix-stays sound (p .page) (freeing-does p) guest (unopened freedNow guest _ (freeing-does p .here) refl refl ∙ sym nobody)
+      (λ at i h. absurd (place-apart s guest at _ _ h nobody refl))
 
 -- ---- PMERGE
 module _ {s : State} (sound : Sound s) {caller hpa1 hpa2 : ℕ} {one two : Entry} (p : Merged s caller hpa1 hpa2 one two) where

@@ -11,7 +11,7 @@ use Rattle.entries.specs.declared.leaf.LeafWord.the-variants.{Absent, Present}
 use Rattle.rules.specs.Arguments.{updateArguments, validateArguments, twoFrameArguments, unmergeArguments}
 use Rattle.rules.specs.Arguments.{oneFrameArguments, accessArguments, mayAccess}
 use Rattle.rules.specs.Census.{total, tally}
-use Rattle.rules.specs.Leaves.{leafFrame, isLeaf, consulted, leafInUse, stillShared}
+use Rattle.rules.specs.Leaves.{leafFrame, isLeaf, consulted, leafInUse, presentWords, lastPresent}
 use Rattle.rules.specs.State.{State, N, M, sized, entryAt, differingAt}
 
 -- ---- RMPUPDATE
@@ -81,8 +81,9 @@ pub record Unmerged (s : State) (caller hpa1 hpa2 asid : ℕ) (one two : Entry) 
   pub fixed1 : one .fixed ≡ true
   pub place : consulted s one asid ≡ Present gpa
 
--- ---- PUNFIX
-pub record Unfixed (s : State) (caller hpa : ℕ) (old : Entry) (gpa : ℕ) : Type 0 where
+-- ---- PUNFIX: what it has passed before the present words count, and the two ways in which it goes on: to the one guest that is left, or
+-- to nobody
+pub record Unfixing (s : State) (caller hpa : ℕ) (old : Entry) : Type 0 where
   pub size : sized s ≡ true
   pub arguments : oneFrameArguments caller hpa ≡ true
   pub host : caller ≡ 0
@@ -90,8 +91,18 @@ pub record Unfixed (s : State) (caller hpa : ℕ) (old : Entry) (gpa : ℕ) : Ty
   pub here : entryAt s (frameOf hpa) ≡ Good old
   pub type : old .kind ≡ MERGEABLE
   pub fixed : old .fixed ≡ true
-  pub place : consulted s old (old .asid) ≡ Present gpa
-  pub unshared : stillShared s (leafFrame old) (old .asid) 512 ≡ false
+  pub is-leaf : isLeaf (entryAt s (leafFrame old)) ≡ true
+
+pub record Unfixed (s : State) (caller hpa : ℕ) (old : Entry) (guest gpa : ℕ) : Type 0 where
+  pub page : Unfixing s caller hpa old
+  pub range : isGuest guest ≡ true
+  pub one-left : presentWords s (leafFrame old) ≡ 1
+  pub last : lastPresent s (leafFrame old) ≡ guest
+  pub place : consulted s old guest ≡ Present gpa
+
+pub record Freed (s : State) (caller hpa : ℕ) (old : Entry) : Type 0 where
+  pub page : Unfixing s caller hpa old
+  pub none-left : presentWords s (leafFrame old) ≡ 0
 
 -- ---- READ and WRITE: the four ways in which an access is accepted
 pub data Way (s : State) (writes : Bool) (caller gpa frame gtype : ℕ) : Type 0 where

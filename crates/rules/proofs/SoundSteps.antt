@@ -4,32 +4,31 @@
 use mathlib.Core.Path.{_≡_, refl, sym, _∙_}
 use mathlib.Core.Bool.{true, false}
 use mathlib.Core.Logic.{_≢_, ⊎-elim}
-use Prim.Native.Nat.{ℕ, _<_}
+use Prim.Native.Nat.{ℕ, _<_, _≤_}
 use Rattle.words.proofs.ChoiceLaws.{same-or-not}
-use Rattle.entries.specs.Entry.{MERGEABLE, frameOf, entry, zeroEntry}
+use Rattle.entries.specs.Entry.{MERGEABLE, frameOf, entry, zeroEntry, toMoved}
 use Rattle.entries.specs.declared.entry.Entry.{Entry}
 use Rattle.entries.specs.declared.entry.Decoded.the-variants.{Good, Bad}
 use Rattle.entries.specs.declared.leaf.LeafWord.{LeafWord}
-use Rattle.entries.specs.declared.leaf.LeafWord.the-variants.{Misshapen}
 use Rattle.entries.proofs.Tells.{false-not-true}
 use Rattle.rules.specs.Answers.{Told}
 use Rattle.rules.specs.Assignment.{assigning, validating}
 use Rattle.rules.specs.Calls.{Call, step}
 use Rattle.rules.specs.Leaves.{leafFrame, consulted}
-use Rattle.rules.specs.Merging.{fixing, merging, unmerging, unfixing}
+use Rattle.rules.specs.Merging.{fixing, merging, unmerging}
 use Rattle.rules.specs.State.{State, N, entryAt, withWord}
-use Rattle.rules.proofs.Accepted.{Accepted, by-update, by-validate, by-fix, by-merge, by-unmerge, by-unfix, by-read, by-write}
-use Rattle.rules.proofs.Accepted.{by-census}
+use Rattle.rules.proofs.Accepted.{Accepted, by-update, by-validate, by-fix, by-merge, by-unmerge, by-unfix, by-free, by-read}
+use Rattle.rules.proofs.Accepted.{by-write, by-census}
 use Rattle.rules.proofs.ArgumentLaws.{two-addresses}
 use Rattle.rules.proofs.Consulted.{assigned-consulted, validated-consulted, fixed-consulted, merged-consulted, unmerged-consulted}
 use Rattle.rules.proofs.Consulted.{unfixed-consulted, written-consulted, fixed-owner, fixed-others, merged-here, merged-others}
 use Rattle.rules.proofs.Consulted.{unmerged-here, unmerged-others}
 use Rattle.rules.proofs.Effects.{Put, assigning-does, validating-does, Fixes, fixing-does, merging-does, unmerging-does, Unfixes}
-use Rattle.rules.proofs.Effects.{unfixing-does}
-use Rattle.rules.proofs.Leaves.{unused-leaf, from-absent, from-present}
-use Rattle.rules.proofs.Passed.{Updated, Validated, Fixed, Merged, Unmerged, Unfixed, Way}
+use Rattle.rules.proofs.Effects.{given-does, freeing-does, mergeable-owned}
+use Rattle.rules.proofs.Leaves.{unused-leaf, Broken, whole-absent, whole-present}
+use Rattle.rules.proofs.Passed.{Updated, Validated, Fixed, Merged, Unmerged, Unfixing, Way}
 use Rattle.rules.proofs.Sound.{Sound}
-use Rattle.rules.proofs.StateLaws.{entry-after-word, size-word, same-good, not-bad}
+use Rattle.rules.proofs.StateLaws.{SameSize, entry-tells, entry-after-word, size-word, same-good, not-bad}
 use Rattle.rules.proofs.Stepped.{step-cases}
 
 -- a fixed page is not at a frame whose entry is not fixed
@@ -42,15 +41,16 @@ unfixed-apart u f e there unfixed g d here fixed same =
 module _ {s : State} (sound : Sound s) where
   -- a state with no fixed page that was not there before
   no-new-page :
-      (u : State) → ((f reason : ℕ) → f < N u → entryAt u f ≡ Bad reason → ⊥)
+      (u : State) → SameSize s u → ((f reason : ℕ) → f < N u → entryAt u f ≡ Bad reason → ⊥)
       → ((f : ℕ) (e : Entry) → entryAt u f ≡ Good e → e .fixed ≡ true → entryAt s f ≡ Good e)
-      → ((f : ℕ) (e : Entry) (guest : ℕ) → entryAt u f ≡ Good e → e .fixed ≡ true → consulted u e guest ≡ Misshapen → ⊥)
+      → ((f : ℕ) (e : Entry) (index : ℕ) → entryAt u f ≡ Good e → e .fixed ≡ true → Broken index (consulted u e index) → ⊥)
       → Sound u
-  no-new-page u decodes was unbroken =
+  no-new-page u same-size decodes was unbroken =
       record {
         decodes = decodes;
         alone = λ f g d e hd he fd fe same. sound .alone f g d e (was f d hd fd) (was g e he fe) fd fe same;
         unbroken = unbroken;
+        size = λ f e here fixed. same-size .same-sized ∙ sound .size f e (was f e here fixed) fixed;
       }
 
   -- what stays of the entries and of the words consulted
@@ -66,8 +66,8 @@ module _ {s : State} (sound : Sound s) where
   put-was p unfixed g d here fixed = sym (p .elsewhere g (unfixed-apart _ _ _ (p .here) unfixed g d here fixed)) ∙ here
 
   still-unbroken :
-      (g : ℕ) (d : Entry) (guest : ℕ) {w : LeafWord} → entryAt s g ≡ Good d → d .fixed ≡ true → w ≡ consulted s d guest → w ≡ Misshapen → ⊥
-  still-unbroken g d guest page fixed same broken = sound .unbroken g d guest page fixed (sym same ∙ broken)
+      (g : ℕ) (d : Entry) (index : ℕ) {w : LeafWord} → entryAt s g ≡ Good d → d .fixed ≡ true → w ≡ consulted s d index → Broken index w → ⊥
+  still-unbroken g d index page fixed same broken = sound .unbroken g d index page fixed (rw same at broken)
 
   assigning-sound :
       {caller hpa gpa asid kind : ℕ} {old : Entry} → Updated s caller hpa gpa asid kind old
@@ -75,7 +75,7 @@ module _ {s : State} (sound : Sound s) where
   unfolding entry
   assigning-sound p =
       let e = assigning-does p .put in
-      no-new-page _ (put-decodes e) (put-was e refl)
+      no-new-page _ (e .same-size) (put-decodes e) (put-was e refl)
       (λ g d guest here fixed.
       let page = put-was e refl g d here fixed in
       still-unbroken g d guest page fixed (assigned-consulted sound g page fixed guest p))
@@ -85,7 +85,7 @@ module _ {s : State} (sound : Sound s) where
   unfolding entry
   validating-sound p =
       let e = validating-does p .put in
-      no-new-page _ (put-decodes e) (put-was e refl)
+      no-new-page _ (e .same-size) (put-decodes e) (put-was e refl)
       (λ g d guest here fixed.
       let page = put-was e refl g d here fixed in
       still-unbroken g d guest page fixed (validated-consulted sound g page fixed guest p))
@@ -95,7 +95,7 @@ module _ {s : State} (sound : Sound s) where
   unfolding zeroEntry entry
   merging-sound {hpa1 = hpa1} {hpa2 = hpa2} {one = one} {two = two} p =
       let e = merging-does p .put in
-      no-new-page _ (put-decodes e) (put-was e refl)
+      no-new-page _ (e .same-size) (put-decodes e) (put-was e refl)
       (λ g d guest here fixed.
       let page = put-was e refl g d here fixed in
       ⊎-elim
@@ -103,10 +103,13 @@ module _ {s : State} (sound : Sound s) where
       (λ other. still-unbroken g d guest page fixed (merged-consulted sound g page fixed guest p other))
       (same-or-not g (frameOf hpa1)))
     where
-      in-leaf : (guest : ℕ) → consulted (merging s one (frameOf hpa2) two) one guest ≡ Misshapen → ⊥
+      some : 1 ≤ two .asid
+      some = entry-tells s _ (p .here2) .owned-asid (mergeable-owned _ (p .type2))
+
+      in-leaf : (guest : ℕ) → Broken guest (consulted (merging s one (frameOf hpa2) two) one guest) → ⊥
       in-leaf guest =
           ⊎-elim
-          (λ same. rw same (from-present (merged-here p)))
+          (λ same. rw same (whole-present some (merged-here p)))
           (λ other. still-unbroken (frameOf hpa1) one guest (p .here1) (p .fixed1) (merged-others p guest other))
           (same-or-not guest (two .asid))
 
@@ -116,7 +119,7 @@ module _ {s : State} (sound : Sound s) where
   unfolding entry
   unmerging-sound {hpa1 = hpa1} {hpa2 = hpa2} {asid = asid} {one = one} {gpa = gpa} p =
       let e = unmerging-does p .put in
-      no-new-page _ (put-decodes e) (put-was e refl)
+      no-new-page _ (e .same-size) (put-decodes e) (put-was e refl)
       (λ g d guest here fixed.
       let page = put-was e refl g d here fixed in
       ⊎-elim
@@ -125,44 +128,43 @@ module _ {s : State} (sound : Sound s) where
       (unmerged-consulted sound g page fixed guest p other))
       (same-or-not g (frameOf hpa1)))
     where
-      in-leaf : (guest : ℕ) → consulted (unmerging s (frameOf hpa1) one (frameOf hpa2) asid gpa) one guest ≡ Misshapen → ⊥
+      in-leaf : (guest : ℕ) → Broken guest (consulted (unmerging s (frameOf hpa1) one (frameOf hpa2) asid gpa) one guest) → ⊥
       in-leaf guest =
           ⊎-elim
-          (λ same. rw same (from-absent (unmerged-here p)))
+          (λ same. rw same (whole-absent (unmerged-here p)))
           (λ other. still-unbroken (frameOf hpa1) one guest (p .here1) (p .fixed1)
           (unmerged-others p guest other))
           (same-or-not guest asid)
 
-  unfixing-sound :
-      {caller hpa : ℕ} {old : Entry} {gpa : ℕ} → Unfixed s caller hpa old gpa → Sound (unfixing s (frameOf hpa) old gpa)
-  unfolding zeroEntry entry
-  unfixing-sound {hpa = hpa} {old = old} {gpa = gpa} p =
-      no-new-page _ decodes (λ g d here fixed. sym (e .elsewhere g (off g d here fixed .0) (off g d here fixed .1)) ∙ here)
-      (λ g d guest here fixed.
-      let apart = off g d here fixed in
-      let page = sym (e .elsewhere g (apart .0) (apart .1)) ∙ here in
-      still-unbroken g d guest page fixed (unfixed-consulted sound g page fixed guest p (apart .0)))
-    where
-      e : Unfixes s (unfixing s (frameOf hpa) old gpa) (frameOf hpa) (leafFrame old) (entry (old .asid) MERGEABLE true false gpa)
-      e = unfixing-does p
+  -- both ways of PUNFIX
+  module _ {caller hpa : ℕ} {old e : Entry} {u : State} (p : Unfixing s caller hpa old) (x : Unfixes s u (frameOf hpa) (leafFrame old) e)
+      (unfixed : e .fixed ≡ false) where
+    off : (g : ℕ) (d : Entry) → entryAt u g ≡ Good d → d .fixed ≡ true → (g ≢ frameOf hpa) × (g ≢ leafFrame old)
+    unfolding zeroEntry entry
+    off g d here fixed =
+        (unfixed-apart _ _ _ (x .here) unfixed g d here fixed, unfixed-apart _ _ _ (x .leaf-here) refl g d here fixed)
 
-      off : (g : ℕ) (d : Entry) → entryAt (unfixing s (frameOf hpa) old gpa) g ≡ Good d → d .fixed ≡ true
-          → (g ≢ frameOf hpa) × (g ≢ leafFrame old)
-      off g d here fixed =
-          (unfixed-apart _ _ _ (e .here) refl g d here fixed, unfixed-apart _ _ _ (e .leaf-here) refl g d here fixed)
+    page-was : (g : ℕ) (d : Entry) → entryAt u g ≡ Good d → d .fixed ≡ true → entryAt s g ≡ Good d
+    page-was g d here fixed = let apart = off g d here fixed in sym (x .elsewhere g (apart .0) (apart .1)) ∙ here
 
-      decodes :
-          (g reason : ℕ) → g < N (unfixing s (frameOf hpa) old gpa) → entryAt (unfixing s (frameOf hpa) old gpa) g ≡ Bad reason → ⊥
-      decodes g reason inside bad =
-          ⊎-elim (λ same. not-bad _ g _ (e .here) same bad)
-          (λ other. ⊎-elim (λ same. not-bad _ g _ (e .leaf-here) same bad)
-          (λ off. sound .decodes g reason (rw (← (e .same-size .same-N)) inside) (sym (e .elsewhere g other off) ∙ bad))
-          (same-or-not g (leafFrame old)))
-          (same-or-not g (frameOf hpa))
+    decodes : (g reason : ℕ) → g < N u → entryAt u g ≡ Bad reason → ⊥
+    decodes g reason inside bad =
+        ⊎-elim (λ same. not-bad _ g _ (x .here) same bad)
+        (λ other. ⊎-elim (λ same. not-bad _ g _ (x .leaf-here) same bad)
+        (λ away. sound .decodes g reason (rw (← (x .same-size .same-N)) inside) (sym (x .elsewhere g other away) ∙ bad))
+        (same-or-not g (leafFrame old)))
+        (same-or-not g (frameOf hpa))
+
+    unfixing-sound : Sound u
+    unfixing-sound =
+        no-new-page u (x .same-size) decodes page-was
+        (λ g d guest here fixed.
+        let page = page-was g d here fixed in
+        still-unbroken g d guest page fixed (unfixed-consulted sound g page fixed guest p x (off g d here fixed .0)))
 
   writing-sound : {caller gpa f gtype : ℕ} (i value : ℕ) → Way s true caller gpa f gtype → Sound (withWord s f i value)
   writing-sound {f = f} i value w =
-      no-new-page _ (λ g reason inside bad. sound .decodes g reason (rw (← (size-word s f i value .same-N)) inside) (sym (same g) ∙ bad))
+      no-new-page _ (size-word s f i value) (λ g reason inside bad. sound .decodes g reason (rw (← (size-word s f i value .same-N)) inside) (sym (same g) ∙ bad))
       (λ g d here fixed. sym (same g) ∙ here)
       (λ g d guest here fixed.
       let page = sym (same g) ∙ here in
@@ -191,10 +193,13 @@ module _ {s : State} (sound : Sound s) where
     other-leaf g d here fixed other =
         unused-leaf s leaf g (p .unused) (two-addresses _ _ _ (p .arguments) .1) (was g d here other) fixed
 
-    new-unbroken : (guest : ℕ) → consulted u new guest ≡ Misshapen → ⊥
+    some : 1 ≤ old .asid
+    some = entry-tells s _ (p .here) .owned-asid (mergeable-owned _ (p .type))
+
+    new-unbroken : (guest : ℕ) → Broken guest (consulted u new guest) → ⊥
     new-unbroken guest =
-        ⊎-elim (λ same. rw same (from-present (fixed-owner p)))
-        (λ other. from-absent (fixed-others p guest other))
+        ⊎-elim (λ same. rw same (whole-present some (fixed-owner p)))
+        (λ other. whole-absent (fixed-others p guest other))
         (same-or-not guest (old .asid))
 
     fixing-alone :
@@ -221,16 +226,19 @@ module _ {s : State} (sound : Sound s) where
               let page = was g d here other in
               still-unbroken g d guest page fixed (fixed-consulted sound g page fixed guest p))
               (same-or-not g (frameOf hpa));
+          size = λ g d here fixed. e .put .same-size .same-sized ∙ p .size;
         }
 
 -- ---- any call
 accepted-sound : {s after : State} {c : Call} {told : Told} → Sound s → Accepted s c told after → Sound after
+unfolding zeroEntry toMoved entry
 accepted-sound sound (by-update p) = assigning-sound sound p
 accepted-sound sound (by-validate p) = validating-sound sound p
 accepted-sound sound (by-fix p) = fixing-sound sound p
 accepted-sound sound (by-merge p) = merging-sound sound p
 accepted-sound sound (by-unmerge p) = unmerging-sound sound p
-accepted-sound sound (by-unfix p) = unfixing-sound sound p
+accepted-sound sound (by-unfix p) = unfixing-sound sound (p .page) (given-does p) refl
+accepted-sound sound (by-free p) = unfixing-sound sound (p .page) (freeing-does p) refl
 accepted-sound sound (by-read p) = sound
 accepted-sound sound (by-write p) = writing-sound sound _ _ (p .way)
 accepted-sound sound (by-census p) = sound

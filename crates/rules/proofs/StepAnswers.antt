@@ -11,7 +11,7 @@ use borrow.Author.Tests.{lt-leb}
 use Rattle.words.proofs.ChoiceLaws.{lt-or-le, pick-either}
 use Rattle.entries.specs.declared.entry.Entry.{Entry}
 use Rattle.entries.proofs.LeafLaws.{address-small}
-use Rattle.entries.proofs.Tells.{Tells}
+use Rattle.entries.proofs.Tells.{Tells, guest-range}
 use Rattle.rules.specs.Answers.{Told, refused, closed}
 use Rattle.rules.specs.Assignment.{updateAnswer, validateAnswer}
 use Rattle.rules.specs.Calls.{Call, RMPUPDATE}
@@ -19,8 +19,8 @@ use Rattle.rules.specs.Refusals.{Refusal}
 use Rattle.rules.specs.State.{State}
 use Rattle.rules.specs.Words.{HoldsWords, MayAnswer, is-refused, is-none, is-closed, is-opened, is-already, is-fixed, is-merged}
 use Rattle.rules.specs.Words.{is-unmerged, is-unfixed, is-read, is-written, is-counted, MeetsNoBadEntry, StepAnswers}
-use Rattle.rules.proofs.Accepted.{Accepted, by-update, by-validate, by-fix, by-merge, by-unmerge, by-unfix, by-read, by-write}
-use Rattle.rules.proofs.Accepted.{by-census}
+use Rattle.rules.proofs.Accepted.{Accepted, by-update, by-validate, by-fix, by-merge, by-unmerge, by-unfix, by-free, by-read}
+use Rattle.rules.proofs.Accepted.{by-write, by-census}
 use Rattle.rules.proofs.CensusLaws.{tally-most}
 use Rattle.rules.proofs.Cause.{bad-entry, broken-leaf, ordinary, Cause, plain, fault}
 use Rattle.rules.proofs.StateLaws.{sizes, entry-tells}
@@ -53,7 +53,8 @@ accepted-answers words (by-validate p) = pick-either (MayAnswer _) _ _ _ (λ v. 
 accepted-answers words (by-fix p) = is-fixed
 accepted-answers words (by-merge p) = is-merged
 accepted-answers words (by-unmerge p) = is-unmerged
-accepted-answers words (by-unfix p) = is-unfixed
+accepted-answers words (by-unfix {guest = guest} p) = is-unfixed {owner = guest} (omega (arith, guest-range guest (p .range) .1))
+accepted-answers words (by-free p) = is-unfixed {owner = 0} (omega arith)
 accepted-answers words (by-read p) = is-read (words _ _)
 accepted-answers words (by-write p) = is-written
 accepted-answers {s} words (by-census {asid} {n} p) =

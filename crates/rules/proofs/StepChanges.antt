@@ -7,17 +7,17 @@ use Prim.Native.Nat.{ℕ}
 use Rattle.words.specs.Choice.{pick}
 use Rattle.words.proofs.ChoiceLaws.{pick-either, pick-same}
 use Rattle.entries.specs.Entry.{isGuest}
-use Rattle.rules.specs.Answers.{Told, refused, done, none, closed, opened, already, word, count}
+use Rattle.rules.specs.Answers.{Told, refused, done, none, closed, opened, already, unfixed, word, count}
 use Rattle.rules.specs.Calls.{Call, RMPUPDATE, PVALIDATE, PFIX, PMERGE, PUNMERGE, PUNFIX, READ, WRITE, CENSUS, step}
 use Rattle.rules.specs.History.{Event, opens, closes, reads, writes, noEvent, byAnswer, accepted, eventOf}
 use Rattle.rules.specs.Refusals.{Refusal}
 use Rattle.rules.specs.State.{State}
-use Rattle.rules.proofs.Accepted.{Accepted, by-update, by-validate, by-fix, by-merge, by-unmerge, by-unfix, by-read, by-write}
-use Rattle.rules.proofs.Accepted.{by-census}
+use Rattle.rules.proofs.Accepted.{Accepted, by-update, by-validate, by-fix, by-merge, by-unmerge, by-unfix, by-free, by-read}
+use Rattle.rules.proofs.Accepted.{by-write, by-census}
 use Rattle.rules.proofs.AccessChanges.{ReadPlace, read-of-place, read-change, write-change}
 use Rattle.rules.proofs.AssignmentChanges.{update-change, validate-change}
 use Rattle.rules.proofs.Changes.{Change}
-use Rattle.rules.proofs.MergingChanges.{fix-change, merge-change, unmerge-change, unfix-change}
+use Rattle.rules.proofs.MergingChanges.{fix-change, merge-change, unmerge-change, unfix-change, free-change}
 use Rattle.rules.proofs.PlaceChanges.{unchanged}
 use Rattle.rules.proofs.Sound.{Sound}
 use Rattle.rules.proofs.Stepped.{step-cases}
@@ -45,6 +45,7 @@ accepted-change guest sound range (by-fix p) = fix-change sound p guest
 accepted-change guest sound range (by-merge p) = merge-change sound p guest
 accepted-change guest sound range (by-unmerge p) = unmerge-change sound p guest
 accepted-change guest sound range (by-unfix p) = unfix-change sound p guest range
+accepted-change guest sound range (by-free p) = free-change sound p guest range
 accepted-change guest sound range (by-read p) = read-change p guest
 accepted-change guest sound range (by-write p) = write-change sound _ p guest
 accepted-change guest sound range (by-census p) = unchanged _ guest
@@ -77,6 +78,7 @@ answered-else none c o e hc ho he = he
 answered-else (closed guest gpa) c o e hc ho he = hc guest gpa
 answered-else opened c o e hc ho he = ho
 answered-else already c o e hc ho he = he
+answered-else (unfixed owner) c o e hc ho he = he
 answered-else (word value) c o e hc ho he = he
 answered-else (count number) c o e hc ho he = he
 
@@ -94,6 +96,7 @@ accepted-read (by-fix p) = no-read _ _ _ _ refl
 accepted-read (by-merge p) = no-read _ _ _ _ refl
 accepted-read (by-unmerge p) = no-read _ _ _ _ refl
 accepted-read (by-unfix p) = no-read _ _ _ _ refl
+accepted-read (by-free p) = no-read _ _ _ _ refl
 accepted-read (by-read p) = read-of-place p
 accepted-read (by-write p) = no-read _ _ _ _ (chosen-else _ _ (answered-else _ _ _ _ (λ g a. refl) refl refl))
 accepted-read (by-census p) = no-read _ _ _ _ refl

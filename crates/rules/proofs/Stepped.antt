@@ -25,11 +25,13 @@ use Rattle.rules.specs.Merging.{pfix, pmerge, punmerge, punfix}
 use Rattle.rules.specs.Reasons.{framesOf}
 use Rattle.rules.specs.Refusals.{Refusal, TYPE}
 use Rattle.rules.specs.State.{State, N, covers}
-use Rattle.rules.proofs.Accepted.{Accepted, by-update, by-validate, by-fix, by-merge, by-unmerge, by-unfix, by-read, by-write}
-use Rattle.rules.proofs.Accepted.{by-census, Stepped, refuses, accepts}
-use Rattle.rules.proofs.Chain.{granted, turned-down, chosen, checked, checked-not, begun, decoded-by, placed-by, vacant-by}
+use Rattle.rules.proofs.Accepted.{Accepted, by-update, by-validate, by-fix, by-merge, by-unmerge, by-unfix, by-free, by-read}
+use Rattle.rules.proofs.Accepted.{by-write, by-census, Stepped, refuses, accepts}
+use Rattle.rules.proofs.Chain.{granted, turned-down, chosen, checked, checked-not, begun, decoded-by, placed-by, vacant-by, leaf-by}
+use Rattle.rules.proofs.Chain.{remaining-by}
 use Rattle.rules.proofs.FirstReason.{named-good}
-use Rattle.rules.proofs.Passed.{Way, above, shared, own, merged, Accessed, Counted}
+use Rattle.rules.proofs.Leaves.{leaf-has}
+use Rattle.rules.proofs.Passed.{Way, above, shared, own, merged, Unfixing, Accessed, Counted}
 use Rattle.rules.proofs.Cause.{Cause, fault, tally-stops}
 use Rattle.rules.proofs.StateLaws.{covered-frame, uncovered-frame}
 
@@ -178,11 +180,9 @@ module _ (s : State) where
       decoded-by _ _ [] refl (covered-frame s _ inside) λ old here.
       checked _ _ _ refl λ type.
       checked _ _ _ refl λ fixed.
-      placed-by _ _ _ _ here fixed λ gpa place.
-      checked-not _ _ _ refl λ unshared.
-      granted
-      (by-unfix
-      (record {
+      leaf-by _ old here fixed _ λ is-leaf.
+      let page : Unfixing s caller hpa old =
+      record {
         size = size;
         arguments = arguments;
         host = host-is caller host;
@@ -190,9 +190,12 @@ module _ (s : State) where
         here = here;
         type = eqb-true _ _ type;
         fixed = fixed;
-        place = place;
-        unshared = unshared;
-      }))
+        is-leaf = is-leaf;
+      } in
+      remaining-by _ old here fixed is-leaf (leaf-has s _ size here fixed) _ _
+      (λ guest gpa range one-left last place.
+      granted (by-unfix (record { page = page; range = range; one-left = one-left; last = last; place = place })))
+      (λ none-left. granted (by-free (record { page = page; none-left = none-left })))
 
   -- the checks of an access, whatever it is to do
   module _ {c : Call} (writes : Bool) (caller gpa hpa gtype ntype index : ℕ) (rest : Verdict)

@@ -16,9 +16,10 @@ use Rattle.rules.specs.Census.{census}
 use Rattle.rules.specs.Reasons.{framesOf}
 use Rattle.rules.specs.Refusals.{Refusal}
 use Rattle.rules.specs.State.{State, entryAt}
-use Rattle.rules.proofs.Accepted.{Accepted, by-update, by-validate, by-fix, by-merge, by-unmerge, by-unfix, by-read, by-write}
-use Rattle.rules.proofs.Accepted.{by-census}
-use Rattle.rules.proofs.Effects.{assigning-does, validating-does, fixing-does, merging-does, unmerging-does, unfixing-does}
+use Rattle.rules.proofs.Accepted.{Accepted, by-update, by-validate, by-fix, by-merge, by-unmerge, by-unfix, by-free, by-read}
+use Rattle.rules.proofs.Accepted.{by-write, by-census}
+use Rattle.rules.proofs.Effects.{assigning-does, validating-does, fixing-does, merging-does, unmerging-does, given-does}
+use Rattle.rules.proofs.Effects.{freeing-does}
 use Rattle.rules.proofs.Cause.{Cause}
 use Rattle.rules.proofs.StateLaws.{same-entry, SameSize, size-refl, size-word}
 use Rattle.rules.proofs.Stepped.{step-cases}
@@ -35,6 +36,7 @@ not-refused (by-fix p) r = λ h. absurd (false≢true (cc))
 not-refused (by-merge p) r = λ h. absurd (false≢true (cc))
 not-refused (by-unmerge p) r = λ h. absurd (false≢true (cc))
 not-refused (by-unfix p) r = λ h. absurd (false≢true (cc))
+not-refused (by-free p) r = λ h. absurd (false≢true (cc))
 not-refused (by-read p) r = λ h. absurd (false≢true (cc))
 not-refused (by-write p) r = λ h. absurd (false≢true (cc))
 not-refused (by-census p) r = λ h. absurd (false≢true (cc))
@@ -93,7 +95,8 @@ accepted-size (by-validate p) = validating-does p .put .same-size
 accepted-size (by-fix p) = fixing-does p .put .same-size
 accepted-size (by-merge p) = merging-does p .put .same-size
 accepted-size (by-unmerge p) = unmerging-does p .put .same-size
-accepted-size (by-unfix p) = unfixing-does p .same-size
+accepted-size (by-unfix p) = given-does p .same-size
+accepted-size (by-free p) = freeing-does p .same-size
 accepted-size (by-read p) = size-refl _
 accepted-size (by-write p) = size-word _ _ _ _
 accepted-size (by-census p) = size-refl _

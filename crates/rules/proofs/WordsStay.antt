@@ -18,8 +18,8 @@ use Rattle.rules.specs.Calls.{Call}
 use Rattle.rules.specs.Merging.{fixing, merging, unmerging, unfixing}
 use Rattle.rules.specs.State.{State, M, wordAt, frameAt, withEntry, withWord, withFrame}
 use Rattle.rules.specs.Words.{AreWords, HoldsWords, numbers, WordsStay}
-use Rattle.rules.proofs.Accepted.{Accepted, by-update, by-validate, by-fix, by-merge, by-unmerge, by-unfix, by-read, by-write}
-use Rattle.rules.proofs.Accepted.{by-census}
+use Rattle.rules.proofs.Accepted.{Accepted, by-update, by-validate, by-fix, by-merge, by-unmerge, by-unfix, by-free, by-read}
+use Rattle.rules.proofs.Accepted.{by-write, by-census}
 use Rattle.rules.proofs.StateLaws.{word-after-entry, word-after-word, word-elsewhere, word-beside, word-after-frame}
 use Rattle.rules.proofs.StateLaws.{word-beside-frame}
 use Rattle.rules.proofs.Stepped.{step-cases}
@@ -107,9 +107,9 @@ module _ (s : State) (words : HoldsWords s) where
   unfolding unmerging
   unmerged from one to asid gpa = put-words _ (entry-words _ (copy-words s words from to) _ _) _ _ 0 (omega arith)
 
-  unfixed : (frame : ℕ) (old : Entry) (gpa : ℕ) → HoldsWords (unfixing s frame old gpa)
+  unfixed : (frame : ℕ) (old new : Entry) → HoldsWords (unfixing s frame old new)
   unfolding unfixing
-  unfixed frame old gpa = zero-words _ (entry-words _ (entry-words s words _ _) _ _) _
+  unfixed frame old new = zero-words _ (entry-words _ (entry-words s words _ _) _ _) _
 
 accepted-words :
     {s after : State} {c : Call} {told : Told} → HoldsWords s → AreWords (numbers c) → Accepted s c told after → HoldsWords after
@@ -120,6 +120,7 @@ accepted-words words fit (by-fix p) = fixed _ words _ _ _
 accepted-words words fit (by-merge p) = merged _ words _ _ _
 accepted-words words fit (by-unmerge p) = unmerged _ words _ _ _ _ _
 accepted-words words fit (by-unfix p) = unfixed _ words _ _ _
+accepted-words words fit (by-free p) = unfixed _ (zero-words _ words _) _ _ _
 accepted-words words fit (by-read p) = words
 accepted-words words fit (by-write p) = put-words _ words _ _ _ (fit .1 .1 .1 .1 .1 .1 .0)
 accepted-words words fit (by-census p) = words

@@ -10,7 +10,7 @@ use Rattle.entries.specs.declared.entry.Decoded.the-variants.{Good, Bad}
 use Rattle.rules.specs.Refusals.{Refusal, GEOMETRY, ARGUMENT, CALLER, OUTSIDE, BAD-ENTRY}
 use Rattle.rules.specs.State.{State, sized}
 
--- the answers, in the paper's words: `done` is the plain `ok` of PFIX, PMERGE, PUNMERGE, PUNFIX and WRITE
+-- the answers, in the paper's words: `done` is the plain `ok` of PFIX, PMERGE, PUNMERGE and WRITE
 pub data Told : Type 0 where
   refused : (refusal : Refusal) → Told
   done : Told
@@ -20,6 +20,8 @@ pub data Told : Type 0 where
   -- PVALIDATE
   opened : Told
   already : Told
+  -- PUNFIX. 02, Q-3: "The answer names the new owner, 0 for none".
+  unfixed : (owner : ℕ) → Told
   -- READ
   word : (value : ℕ) → Told
   -- CENSUS

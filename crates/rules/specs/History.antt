@@ -6,7 +6,7 @@ use Prim.Native.Nat.{ℕ, _+_, _≤_}
 use lib.Dec.{eqb}
 use Rattle.words.specs.Choice.{pick, _and_}
 use Rattle.entries.specs.Entry.{frameOf, isGuest, isOwned, bit}
-use Rattle.rules.specs.Answers.{Told, refused, done, none, closed, opened, already, word, count, Outcome, outcome}
+use Rattle.rules.specs.Answers.{Told, refused, done, none, closed, opened, already, unfixed, word, count, Outcome, outcome}
 use Rattle.rules.specs.Calls.{Call, RMPUPDATE, PVALIDATE, PFIX, PMERGE, PUNMERGE, PUNFIX, READ, WRITE, CENSUS, step}
 use Rattle.rules.specs.Census.{places}
 use Rattle.rules.specs.State.{State, emptyTable, wordAt}
@@ -52,6 +52,7 @@ byAnswer none ifClosed ifOpened ifElse = ifElse
 byAnswer (closed guest gpa) ifClosed ifOpened ifElse = ifClosed guest gpa
 byAnswer opened ifClosed ifOpened ifElse = ifOpened
 byAnswer already ifClosed ifOpened ifElse = ifElse
+byAnswer (unfixed owner) ifClosed ifOpened ifElse = ifElse
 byAnswer (word value) ifClosed ifOpened ifElse = ifElse
 byAnswer (count number) ifClosed ifOpened ifElse = ifElse
 

@@ -1,18 +1,20 @@
--- 01, "Sizes and layout" and "Refusal numbers", 12 to 15 and 17: the leaf of a fixed page, the word consulted in it, and who uses it.
-use mathlib.Core.Bool.{Bool, false, not}
-use Prim.Native.Nat.{ℕ, zero, suc, _%_}
-use lib.Dec.{eqb}
+-- 01, "Sizes and layout" and "Refusal numbers", 12 to 15, and 02, Q-3: the leaf of a fixed page, the word consulted in it, who uses it, and
+-- who is left in it.
+use mathlib.Core.Bool.{Bool, false}
+use Prim.Native.Nat.{ℕ, zero, suc}
+use lib.Dec.{leb, eqb}
 use Rattle.words.specs.Choice.{pick, _and_, _or_}
-use Rattle.entries.specs.Entry.{LEAF, frameOf}
+use Rattle.words.specs.Run.{odd, lastOdd}
+use Rattle.entries.specs.Entry.{LEAF, frameOf, isGuest}
 use Rattle.entries.specs.Leaf.{leafWord}
 use Rattle.entries.specs.declared.entry.Entry.{Entry}
 use Rattle.entries.specs.declared.entry.Decoded.{Decoded}
 use Rattle.entries.specs.declared.entry.Decoded.the-variants.{Good, Bad}
 use Rattle.entries.specs.declared.leaf.LeafWord.{LeafWord}
 use Rattle.entries.specs.declared.leaf.LeafWord.the-variants.{Absent, Present, Misshapen}
-use Rattle.rules.specs.Answers.{Verdict, refuse}
-use Rattle.rules.specs.Refusals.{BROKEN-LEAF, NO-PLACE, PLACE-TAKEN}
-use Rattle.rules.specs.State.{State, entryAt, wordAt}
+use Rattle.rules.specs.Answers.{Verdict, refuse, unless, when}
+use Rattle.rules.specs.Refusals.{BROKEN-LEAF, NO-PLACE, PLACE-TAKEN, STILL-SHARED}
+use Rattle.rules.specs.State.{State, entryAt, wordAt, frameAt}
 
 -- the frame of a fixed page's leaf
 unfoldable pub leafFrame : Entry → ℕ
@@ -47,10 +49,24 @@ unfoldable pub leafInUse : State → ℕ → ℕ → Bool
 leafInUse s leaf zero = false
 leafInUse s leaf (suc n) = leafInUse s leaf n or namesLeaf (entryAt s n) leaf
 
--- 17: one of the first n words of this leaf frame, other than the owner's, has bit 0 set
-unfoldable pub isSharedBy : ℕ → ℕ → ℕ → Bool
-isSharedBy owner guest value = not (eqb guest owner) and eqb (value % 2) 1
+-- 02, Q-3: "Count the present words among all 512": how many words of a leaf frame have bit 0 set, whatever else is in them, and the index
+-- of the last of these
+unfoldable pub presentWords : State → ℕ → ℕ
+presentWords s leaf = odd (frameAt s leaf) 512
 
-unfoldable pub stillShared : State → ℕ → ℕ → ℕ → Bool
-stillShared s frame owner zero = false
-stillShared s frame owner (suc n) = stillShared s frame owner n or isSharedBy owner n (wordAt s frame n)
+unfoldable pub lastPresent : State → ℕ → ℕ
+lastPresent s leaf = lastOdd (frameAt s leaf) 512
+
+-- "One, at the ASID of any guest: ..; at index 0, or misshapen: 12." (The one is present, so that it is not absent.)
+unfoldable pub ofGuest : ℕ → LeafWord → (ℕ → Verdict) → Verdict
+ofGuest index (Present gpa) rest = unless (isGuest index) BROKEN-LEAF (rest gpa)
+ofGuest index Misshapen rest = refuse BROKEN-LEAF
+ofGuest index Absent rest = refuse BROKEN-LEAF
+
+-- "Two or more: 17. One ..: .. None: ..": what follows where one guest is left, with its number and its address, and where nobody is
+unfoldable pub remaining : State → ℕ → (ℕ → ℕ → Verdict) → Verdict → Verdict
+remaining s leaf one none =
+    when (leb 2 (presentWords s leaf)) STILL-SHARED
+    (pick (eqb (presentWords s leaf) 1)
+    (ofGuest (lastPresent s leaf) (leafWord (wordAt s leaf (lastPresent s leaf))) (one (lastPresent s leaf)))
+    none)

@@ -1,16 +1,16 @@
--- 01, "The calls": PFIX, PMERGE, PUNMERGE and PUNFIX.
+-- 01, "The calls": PFIX, PMERGE, PUNMERGE and PUNFIX, the last with 02, Q-3.
 use mathlib.Core.Bool.{true, false}
 use Prim.Native.Nat.{ℕ}
 use lib.Dec.{eqb}
 use Rattle.words.specs.Choice.{_and_}
 use Rattle.frames.specs.Frame.{zeros}
-use Rattle.entries.specs.Entry.{SHARED, MERGEABLE, LEAF, frameOf, entry, zeroEntry, toFixed, toUnfixed}
+use Rattle.entries.specs.Entry.{SHARED, MERGEABLE, LEAF, frameOf, entry, zeroEntry, toFixed, toMoved}
 use Rattle.entries.specs.Leaf.{presentAt}
 use Rattle.entries.specs.declared.entry.Entry.{Entry}
-use Rattle.rules.specs.Answers.{done, Outcome, grant, settle, unless, when, begins, entered, bothEntered}
+use Rattle.rules.specs.Answers.{done, unfixed, Outcome, grant, settle, unless, when, begins, entered, bothEntered}
 use Rattle.rules.specs.Arguments.{isHost, twoFrameArguments, unmergeArguments, oneFrameArguments}
-use Rattle.rules.specs.Leaves.{leafFrame, consulted, placed, vacant, leafInUse, stillShared}
-use Rattle.rules.specs.Refusals.{TYPE, NOT-VALIDATED, FIXED, NOT-FIXED, LEAF-IN-USE, CONTENTS, STILL-SHARED}
+use Rattle.rules.specs.Leaves.{leafFrame, isLeaf, consulted, placed, vacant, leafInUse, remaining}
+use Rattle.rules.specs.Refusals.{TYPE, NOT-VALIDATED, FIXED, NOT-FIXED, BROKEN-LEAF, LEAF-IN-USE, CONTENTS}
 use Rattle.rules.specs.State.{State, N, covers, entryAt, frameAt, differingAt, withEntry, withWord, withFrame}
 
 -- "the leaf frame is zeroed, the owner's word in it is GPA + 1, the entry is FIXED with the leaf's address"
@@ -65,12 +65,14 @@ punmerge s caller hpa1 hpa2 asid =
     (placed (consulted s one asid) λ gpa.
     grant done (unmerging s (frameOf hpa1) one (frameOf hpa2) asid gpa)))))
 
--- "GPA from that word, FIXED 0, VALIDATED stays; the leaf's entry and frame are zeroed"
-unfoldable pub unfixing : State → ℕ → Entry → ℕ → State
-unfixing s frame old gpa =
-    withFrame (withEntry (withEntry s frame (toUnfixed old gpa)) (leafFrame old) zeroEntry) (leafFrame old) zeros
+-- the page gets another entry; "the leaf's entry and frame are zeroed"
+unfoldable pub unfixing : State → ℕ → Entry → Entry → State
+unfixing s frame old new =
+    withFrame (withEntry (withEntry s frame new) (leafFrame old) zeroEntry) (leafFrame old) zeros
 
--- PUNFIX: "5, 6 (not MERGEABLE), 11, 12, 13 (the owner's word), 17." A leaf frame has 512 words.
+-- PUNFIX: "5, 6 (not MERGEABLE), 11, 12", and 02, Q-3: "17 and 12 follow the count, after the leaf's entry check." "One, at the ASID of any
+-- guest: that guest becomes the owner, with that word's address" (01: "FIXED 0, VALIDATED stays"). "None: page and leaf are both zeroed and
+-- turn SHARED."
 unfoldable pub punfix : State → ℕ → ℕ → Outcome
 punfix s caller hpa =
     settle s
@@ -78,6 +80,7 @@ punfix s caller hpa =
     (entered (entryAt s (frameOf hpa)) λ old.
     unless (eqb (old .kind) MERGEABLE) TYPE
     (unless (old .fixed) NOT-FIXED
-    (placed (consulted s old (old .asid)) λ gpa.
-    when (stillShared s (leafFrame old) (old .asid) 512) STILL-SHARED
-    (grant done (unfixing s (frameOf hpa) old gpa))))))
+    (unless (isLeaf (entryAt s (leafFrame old))) BROKEN-LEAF
+    (remaining s (leafFrame old)
+    (λ guest gpa. grant (unfixed guest) (unfixing s (frameOf hpa) old (toMoved old guest gpa)))
+    (grant (unfixed 0) (unfixing (withFrame s (frameOf hpa) zeros) (frameOf hpa) old zeroEntry)))))))

@@ -72,6 +72,6 @@ LEAF-IN-USE = alone 15
 abbrev pub CONTENTS : Refusal
 CONTENTS = alone 16
 
--- a word other than the owner's is present
+-- 02, Q-3: two or more words of the leaf are present
 abbrev pub STILL-SHARED : Refusal
 STILL-SHARED = alone 17

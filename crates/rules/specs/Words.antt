@@ -3,7 +3,7 @@
 use mathlib.Core.List.{List, [], _∷_}
 use mathlib.Core.Logic.{_≢_}
 use Prim.Native.Nat.{ℕ, _<_, _^_}
-use Rattle.rules.specs.Answers.{Told, refused, done, none, closed, opened, already, word, count}
+use Rattle.rules.specs.Answers.{Told, refused, done, none, closed, opened, already, unfixed, word, count}
 use Rattle.rules.specs.Calls.{Call, RMPUPDATE, PVALIDATE, PFIX, PMERGE, PUNMERGE, PUNFIX, READ, WRITE, CENSUS, step}
 use Rattle.rules.specs.Refusals.{alone, BAD-ENTRY}
 use Rattle.rules.specs.State.{State, wordAt}
@@ -41,7 +41,7 @@ pub data MayAnswer : Call → Told → Type 0 where
   is-fixed : {caller hpa leaf : ℕ} → MayAnswer (PFIX caller hpa leaf) done
   is-merged : {caller hpa1 hpa2 : ℕ} → MayAnswer (PMERGE caller hpa1 hpa2) done
   is-unmerged : {caller hpa1 hpa2 asid : ℕ} → MayAnswer (PUNMERGE caller hpa1 hpa2 asid) done
-  is-unfixed : {caller hpa : ℕ} → MayAnswer (PUNFIX caller hpa) done
+  is-unfixed : {caller hpa owner : ℕ} → owner < 2 ^ 64 → MayAnswer (PUNFIX caller hpa) (unfixed owner)
   is-read : {caller gpa hpa gtype ntype index value : ℕ} → value < 2 ^ 64 → MayAnswer (READ caller gpa hpa gtype ntype index) (word value)
   is-written : {caller gpa hpa gtype ntype index value : ℕ} → MayAnswer (WRITE caller gpa hpa gtype ntype index value) done
   is-counted : {asid places : ℕ} → places < 2 ^ 64 → MayAnswer (CENSUS asid) (count places)

@@ -89,12 +89,3 @@ none-differ a b (suc n) e k h = go (eqb (getD a n 0) (getD b n 0)) refl e (none-
     go t q z rest (inl l) = rest (omega arith) k l
     go true q z rest (inr l) = let i : k ≡ n = omega arith in rw i (eqb-true _ _ q)
     go false q z rest (inr l) = omega arith
-
--- none of no words is odd, and the next word adds its bit 0
-pub odd-none : (words : List ℕ) → odd words 0 ≡ 0
-unfolding odd
-odd-none words = refl
-
-pub odd-next : (words : List ℕ) (n : ℕ) → odd words (n + 1) ≡ odd words n + getD words n 0 % 2
-unfolding odd
-odd-next words n = rw (add-one n)

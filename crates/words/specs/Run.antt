@@ -1,11 +1,13 @@
 -- 01, "How tight the promises are": "zeroing, copying and comparing frames .. for a run of any length". What copying and comparing runs of
--- words gives, and how many words of a run are odd; a run that is zeroed is `replicate n 0`.
+-- words gives, and which words of a run are odd; a run that is zeroed is `replicate n 0`.
 use mathlib.Core.List.{List}
 use Prim.Native.Nat.{ℕ, zero, suc, min, _+_, _%_}
 use lib.Dec.{eqb}
 use lib.ListN.{length, getD}
 use lib.Seq.{paste}
 use Rattle.words.specs.Choice.{pick}
+use Rattle.words.specs.declared.run.Odd.{Odd}
+use Rattle.words.specs.declared.run.Odd.the-variants.{None, One, Several}
 
 -- `target` with as many words of `source` at its front as it has room for. (`paste d at s n`, of the library, is `d` with the first n of `s`
 -- laid over it from the place `at` on.)
@@ -21,3 +23,13 @@ differing a b (suc n) = differing a b n + pick (eqb (getD a n 0) (getD b n 0)) 0
 unfoldable pub odd : List ℕ → ℕ → ℕ
 odd words zero = 0
 odd words (suc n) = odd words n + getD words n 0 % 2
+
+-- the place of the last odd word among the first n; 0 where none is odd
+unfoldable pub lastOdd : List ℕ → ℕ → ℕ
+lastOdd words zero = 0
+lastOdd words (suc n) = pick (eqb (getD words n 0 % 2) 1) n (lastOdd words n)
+
+-- which words of a run are odd: none, one, at its place, or several
+unfoldable pub oddOf : List ℕ → Odd
+oddOf words =
+    pick (eqb (odd words (length words)) 0) None (pick (eqb (odd words (length words)) 1) (One (lastOdd words (length words))) Several)

@@ -1,8 +1,12 @@
 // Runs of 64-bit words, of any length.
 ghost use mathlib.Core.Path.{_≡_};
-ghost use Prim.Native.Nat.{min};
+ghost use Prim.Native.Nat.{min, _*_, _/_};
 ghost use lib.ListN.{length, replicate};
-ghost use Rattle.words.specs.Run.{copied, differing, odd};
+ghost use lib.Dec.{eqb};
+ghost use Rattle.words.specs.Choice.{pick};
+ghost use Rattle.words.specs.Run.{copied, differing, odd, lastOdd, oddOf};
+ghost use Rattle.words.specs.declared.run.Odd.the-variants as variants;
+use std::num::wrapping_add_u64;
 
 // Every word becomes zero.
 pub fn zero(run: &mut [u64])
@@ -49,15 +53,84 @@ pub fn differing(a: &[u64], b: &[u64]) -> u64
     n as u64 - same
 }
 
-// How many words are odd: a sum of their bits 0, with no branch.
-pub fn odd(run: &[u64]) -> u64
-    ensures { λ r. ⌜ r ≡ odd (now (run .entry)) (length (now (run .entry))) ⌝ }
+// Which words of a run are odd: none, one, at its place, or several.
+pub enum Odd {
+    None,
+    One(usize),
+    Several,
+}
+
+// What the words up to some place of a run tell: how many are odd and, where one is, its place.
+struct Seen {
+    count: u64,
+    place: usize,
+}
+
+// Every word is read once, and count and place come from the same pass.
+pub fn find_odd(run: &[u64]) -> Odd
+    ensures { λ r. ⌜ r ≡ oddOf (now (run .entry)) ⌝ }
 {
-    let mut count: u64 = 0;
-    let mut i = 0;
+    let seen = seen_in_rows(run);
+    let mut count = seen.count;
+    let mut place = seen.place;
+    let mut i = run.len() / 4 * 4;
     while i < run.len() {
-        count += run[i] % 2;
+        if run[i] % 2 == 1 {
+            place = i;
+            count += 1;
+        }
         i += 1;
     }
-    count
+    told(count, place)
+}
+
+fn told(count: u64, place: usize) -> Odd
+    ensures { λ r. ⌜ r ≡ pick (eqb count 0) variants.None (pick (eqb count 1) (variants.One place) variants.Several) ⌝ }
+{
+    if count == 0 {
+        return Odd::None;
+    }
+    if count == 1 {
+        return Odd::One(place);
+    }
+    Odd::Several
+}
+
+// Of the whole rows, four words each. A column has its count of odd words, and the sum of this count over the rows: where one word of the
+// column is odd, that is how many rows there are from it on. So a row takes no branch and no multiplication, and is two vectors.
+fn seen_in_rows(run: &[u64]) -> Seen
+    ensures counts { λ r. ⌜ r .count ≡ odd (now (run .entry)) (length (now (run .entry)) / 4 * 4) ⌝ }
+    ensures places { λ r. ⌜ (r .count ≡ 1 → r .place ≡ lastOdd (now (run .entry)) (length (now (run .entry)) / 4 * 4)) ⌝ }
+{
+    let rows = run.len() / 4;
+    let mut a: u64 = 0;
+    let mut b: u64 = 0;
+    let mut c: u64 = 0;
+    let mut d: u64 = 0;
+    let mut from_a: u64 = 0;
+    let mut from_b: u64 = 0;
+    let mut from_c: u64 = 0;
+    let mut from_d: u64 = 0;
+    let mut i = 0;
+    while i < rows {
+        a += run[4 * i] % 2;
+        b += run[4 * i + 1] % 2;
+        c += run[4 * i + 2] % 2;
+        d += run[4 * i + 3] % 2;
+        from_a = wrapping_add_u64(from_a, a);
+        from_b = wrapping_add_u64(from_b, b);
+        from_c = wrapping_add_u64(from_c, c);
+        from_d = wrapping_add_u64(from_d, d);
+        i += 1;
+    }
+    let count = a + b + c + d;
+    if count == 1 {
+        let from = from_a + from_b + from_c + from_d;
+        let place = 4 * (rows as u64 - from) + b + 2 * c + 3 * d;
+        return Seen {
+            count,
+            place: place as usize,
+        };
+    }
+    Seen { count, place: 0 }
 }

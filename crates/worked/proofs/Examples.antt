@@ -5,11 +5,12 @@ use mathlib.Core.List.{map}
 use Rattle.rules.specs.Calls.{step}
 use Rattle.rules.specs.Census.{placeIn, placesBelow, places}
 use Rattle.worked.specs.Examples.{Example, blank, page, pageOfTwo, owned, unopened, lone, apart, fixedPage, unfixedPage, mergedPage}
+use Rattle.worked.specs.Examples.{ownerGone}
 use Rattle.worked.specs.Examples.{halfEntry, badEntry, noLeaf, leafTaken, examples, Placed, placeExamples}
 use Rattle.worked.proofs.Computed.{computed}
 
 pub as-worked : map (λ (x : Example). step (x .before) (x .call)) examples ≡ map (λ (x : Example). x .gives) examples
-unfolding computed examples blank page pageOfTwo owned unopened lone apart fixedPage unfixedPage mergedPage
+unfolding computed examples blank page pageOfTwo owned unopened lone apart fixedPage unfixedPage mergedPage ownerGone
     halfEntry badEntry noLeaf leafTaken
 as-worked = refl
 

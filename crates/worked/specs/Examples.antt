@@ -1,10 +1,10 @@
 -- 01, "The calls": worked examples of the nine calls, each with the whole table and memory before and after it; of every refusal that a
--- call can give; of the order of checks; and of places. They are worked by hand from 01; that the definitions give them is shown in
--- proofs/Examples.
+-- call can give; of the order of checks; and of places. They are worked by hand from 01, and those of PUNFIX from 02, Q-3; that the
+-- definitions give them is shown in proofs/Examples.
 use mathlib.Core.List.{List, [], _∷_, _++_}
 use Prim.Native.Nat.{ℕ, _-_}
 use lib.ListN.{replicate}
-use Rattle.rules.specs.Answers.{Told, refused, done, none, closed, opened, already, word, count, Outcome, outcome}
+use Rattle.rules.specs.Answers.{Told, refused, done, none, closed, opened, already, unfixed, word, count, Outcome, outcome}
 use Rattle.rules.specs.Calls.{Call, RMPUPDATE, PVALIDATE, PFIX, PMERGE, PUNMERGE, PUNFIX, READ, WRITE, CENSUS}
 use Rattle.rules.specs.Refusals.{alone, BAD-ENTRY}
 use Rattle.rules.specs.State.{State, state}
@@ -66,6 +66,10 @@ unfoldable pub mergedPage : State
 mergedPage =
     state (0xe0007 ∷ 0x2000 ∷ 0 ∷ 0 ∷ 0x30000 ∷ 0 ∷ []) (page 3 0x2a ++ (blank ++ pageOfTwo 7 0x50001 9 0x60001))
 
+-- frame 0 is fixed, and its owner, guest 7, was unmerged into frame 1: what is left in the leaf are these words
+unfoldable pub ownerGone : List ℕ → State
+ownerGone leaf = state (0xe0007 ∷ 0x2000 ∷ 0x60007 ∷ 0x50000 ∷ 0x30000 ∷ 0 ∷ []) (page 3 0x2a ++ (page 3 0x2a ++ leaf))
+
 -- half an entry; one frame whose entry has a spare bit; two frames, the first fixed with the second, which is no LEAF, as its leaf
 unfoldable pub halfEntry : State
 halfEntry = state (0 ∷ []) blank
@@ -100,8 +104,18 @@ examples =
     ∷ refuses (state (fixedPage .table) (page 3 0x2a ++ (page 3 0x2a ++ pageOfTwo 7 0x50001 9 0x70001))) (PMERGE 0 0 0x1000) 14
     ∷ accepts mergedPage (PUNMERGE 0 0 0x1000 9) done fixedPage
     ∷ refuses mergedPage (PUNMERGE 0 0 0x1000 8) 13
-    ∷ accepts fixedPage (PUNFIX 0 0) done unfixedPage
+    ∷ accepts fixedPage (PUNFIX 0 0) (unfixed 7) unfixedPage
     ∷ refuses mergedPage (PUNFIX 0 0) 17
+    -- another guest is left in the page, which keeps its contents; and nobody: bit 0 is clear in every word of the leaf
+    ∷ accepts (ownerGone (page 9 0x60001)) (PUNFIX 0 0) (unfixed 9)
+    (state (0x60009 ∷ 0x60000 ∷ 0x60007 ∷ 0x50000 ∷ 0 ∷ 0 ∷ []) (page 3 0x2a ++ (page 3 0x2a ++ blank)))
+    ∷ accepts (ownerGone (page 511 0x1)) (PUNFIX 0 0) (unfixed 511)
+    (state (0x601ff ∷ 0 ∷ 0x60007 ∷ 0x50000 ∷ 0 ∷ 0 ∷ []) (page 3 0x2a ++ (page 3 0x2a ++ blank)))
+    ∷ accepts (ownerGone (page 9 0x60002)) (PUNFIX 0 0) (unfixed 0)
+    (state (0 ∷ 0 ∷ 0x60007 ∷ 0x50000 ∷ 0 ∷ 0 ∷ []) (blank ++ (page 3 0x2a ++ blank)))
+    ∷ refuses (ownerGone (page 0 0x60001)) (PUNFIX 0 0) 12
+    ∷ refuses (ownerGone (page 9 0x60003)) (PUNFIX 0 0) 12
+    ∷ refuses (ownerGone (pageOfTwo 0 0x60001 9 0x60001)) (PUNFIX 0 0) 17
     ∷ accepts mergedPage (READ 9 0x60000 0 2 2 3) (word 0x2a) mergedPage
     ∷ refuses mergedPage (READ 9 0x50000 0 2 2 3) 8
     ∷ accepts owned (WRITE 7 0x50000 0 2 2 3 0x2b) done (state (0x60007 ∷ 0x50000 ∷ []) (page 3 0x2b))
@@ -154,7 +168,7 @@ examples =
     ∷ refuses unopened (READ 7 0x60000 0 2 2 3) 8
     ∷ refuses (state (0xe0007 ∷ 0x2000 ∷ 0x20009 ∷ 0x60000 ∷ 0 ∷ 0 ∷ []) (fixedPage .memory)) (PMERGE 0 0 0x1000) 9
     ∷ refuses (state (fixedPage .table) (page 3 0x2a ++ (page 3 0x2b ++ pageOfTwo 7 0x50001 9 0x70001))) (PMERGE 0 0 0x1000) 14
-    ∷ refuses (state (mergedPage .table) (page 3 0x2a ++ (blank ++ page 9 0x60001))) (PUNFIX 0 0) 13
+    ∷ refuses (state (0xe0007 ∷ 0x1000 ∷ 0 ∷ 0 ∷ []) (page 3 0x2a ++ pageOfTwo 7 0x50001 9 0x60001)) (PUNFIX 0 0) 12
     ∷ refuses noLeaf (WRITE 7 0x50000 0 2 2 3 0x2b) 10
     ∷ refuses (state (0xe0007 ∷ 0x1000 ∷ 0x130000 ∷ 0 ∷ []) (blank ++ blank)) (CENSUS 7) 12
     ∷ finds (state (0x130000 ∷ 0 ∷ 0xe0007 ∷ 0 ∷ []) (blank ++ blank)) (CENSUS 7) 1

@@ -2,7 +2,7 @@
 -- the calls was to a guest, as demand 3 counts it.
 use mathlib.Core.List.{List, [], _∷_}
 use lib.ListN.{replicate}
-use Rattle.rules.specs.Answers.{Told, refused, done, none, closed, opened, word, count}
+use Rattle.rules.specs.Answers.{Told, refused, done, none, closed, opened, unfixed, word, count}
 use Rattle.rules.specs.Calls.{Call, RMPUPDATE, PVALIDATE, PFIX, PMERGE, PUNMERGE, PUNFIX, READ, WRITE, CENSUS}
 use Rattle.rules.specs.History.{Event, opens, closes, reads, writes, noEvent}
 use Rattle.rules.specs.Refusals.{alone}
@@ -36,6 +36,7 @@ script =
     ∷ READ 0x7 0x50000 0x1000 0x2 0x2 0x3
     ∷ []
 
+-- 02, Q-3: "the worked `X ok` becomes `X ok 7`"
 unfoldable pub output : List Told
 output =
     none
@@ -52,7 +53,7 @@ output =
     ∷ refused (alone 10)
     ∷ refused (alone 17)
     ∷ done
-    ∷ done
+    ∷ unfixed 0x7
     ∷ done
     ∷ word 0x2a
     ∷ count 0x1

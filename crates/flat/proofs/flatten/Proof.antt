@@ -59,6 +59,12 @@ enum-known-answer-4 c = search needs
 numbers-requires-8 : tie.Need-numbers-requires-8
 numbers-requires-8 c κs = search needs
 
+enum-known-answer-5 : tie.Need-enum-known-answer-5
+enum-known-answer-5 c = search needs
+
+numbers-requires-9 : tie.Need-numbers-requires-9
+numbers-requires-9 c κs = search needs
+
 returns : tie.Need-returns
 unfolding flat
 returns c =
@@ -98,6 +104,10 @@ returns-8 : tie.Need-returns-8
 unfolding flat
 returns-8 c = rw (c .before .before .answer4 .given .1, ← c .numbers8 .ensures)
 
+returns-9 : tie.Need-returns-9
+unfolding flat
+returns-9 c = rw (c .before .before .answer5 .given .1, ← c .numbers9 .ensures)
+
 pub flatten-spec : {M : Type 1} → statement M
 flatten-spec =
     tie.close
@@ -120,6 +130,8 @@ flatten-spec =
     numbers-requires-7
     enum-known-answer-4
     numbers-requires-8
+    enum-known-answer-5
+    numbers-requires-9
     returns
     returns-2
     returns-3
@@ -127,4 +139,5 @@ flatten-spec =
     returns-5
     returns-6
     returns-7
-    returns-8)
+    returns-8
+    returns-9)

@@ -4,7 +4,8 @@ use borrow.Author.Needs.{needs}
 use Rattle.rules.specs.Merging.{punfix}
 use Rattle.rules.specs.State.{entryAt}
 use Rattle.checks.proofs.NamedLaws.{one-checked}
-use Rattle.checks.specs.Passed.{withNamed, withPlace}
+use Rattle.checks.specs.Passed.{withNamed}
+use Rattle.fixing.specs.Left.{withLeft}
 use Rattle.fixing.proofs.unfix.check_unfix.Statement.{statement}
 use Rattle.fixing.proofs.unfix.check_unfix.Tie as tie
 
@@ -20,11 +21,11 @@ enum-known-refusal c = search needs
 enum-known-old : tie.Need-enum-known-old
 enum-known-old c = search needs
 
-owner-place-requires : tie.Need-owner-place-requires
-owner-place-requires c κs = search needs
+left-in-page-requires : tie.Need-left-in-page-requires
+left-in-page-requires c κs = search needs
 
 returns : tie.Need-returns
-unfolding punfix withNamed withPlace entryAt
+unfolding punfix withNamed withLeft entryAt
 returns c = let at-first = c .before .before .before in
     rw (← at-first .before .begin-unfix .ensures, one-checked _ _ (at-first .first .ensures), c .before .refusal .given .1)
 
@@ -35,7 +36,7 @@ returns-2 c = let at-old = c .before .before in let at-first = at-old .before .b
       ← at-first .before .begin-unfix .ensures,
       one-checked _ _ (at-first .first .ensures),
       at-old .old .given .1,
-      c .owner-place .ensures,
+      c .left-in-page .ensures,
     )
 
 pub check-unfix-spec : {M : Type 1} → statement M
@@ -46,6 +47,6 @@ check-unfix-spec =
     first-requires
     enum-known-refusal
     enum-known-old
-    owner-place-requires
+    left-in-page-requires
     returns
     returns-2)

@@ -10,9 +10,6 @@ use Rattle.fixing.proofs.unfix.unfix.Tie as tie
 frame-of-requires : tie.Need-frame-of-requires
 frame-of-requires c κs = search needs
 
-to-unfixed-requires : tie.Need-to-unfixed-requires
-to-unfixed-requires c κs = search needs
-
 put-requires : tie.Need-put-requires
 put-requires c κs = search needs
 
@@ -35,14 +32,13 @@ returns : tie.Need-returns
 unfolding unfixing leafFrame withEntry withFrame
 returns c =
     let at-zero2 = c .before .before in let at-put2 = at-zero2 .before .before .before .before in
-    let at-zero = at-put2 .before .before in let at-put = at-zero .before .before .before in let at-to-unfixed = at-put .before in
-    let at-frame-of = at-to-unfixed .before .before in
+    let at-zero = at-put2 .before in let at-put = at-zero .before .before .before .before in
+    let at-frame-of = at-put .before .before in
     rw (
       at-zero2 .zero2 .ensures,
       at-put2 .put2 .ensures,
       at-zero .zero .ensures,
       at-put .put .ensures,
-      at-to-unfixed .to-unfixed .ensures,
       at-frame-of .frame-of .ensures,
     )
 
@@ -51,7 +47,6 @@ unfix-spec =
     tie.close
     (tie.spec
     frame-of-requires
-    to-unfixed-requires
     put-requires
     zero-requires
     put-requires-2

@@ -75,6 +75,12 @@ enum-known-answer-4 c = search needs
 append-number-requires-2 : tie.Need-append-number-requires-2
 append-number-requires-2 c κs = search needs
 
+enum-known-answer-5 : tie.Need-enum-known-answer-5
+enum-known-answer-5 c = search needs
+
+append-number-requires-3 : tie.Need-append-number-requires-3
+append-number-requires-3 c κs = search needs
+
 same-length : tie.Need-same-length
 same-length c = search needs
 
@@ -141,8 +147,16 @@ same-length-8 : tie.Need-same-length-8
 same-length-8 c = search needs
 
 returns-8 : tie.Need-returns-8
+unfolding answered
 returns-8 c =
     rw (c .before .before .before .before .before .answer4 .given .1, c .before .before .append-number2 .ensures)
+
+same-length-9 : tie.Need-same-length-9
+same-length-9 c = search needs
+
+returns-9 : tie.Need-returns-9
+returns-9 c =
+    rw (c .before .before .before .before .before .answer5 .given .1, c .before .before .append-number3 .ensures)
 
 pub append-answer-spec : {M : Type 1} → statement M
 append-answer-spec =
@@ -171,6 +185,8 @@ append-answer-spec =
     append-number-requires
     enum-known-answer-4
     append-number-requires-2
+    enum-known-answer-5
+    append-number-requires-3
     same-length
     returns
     same-length-2
@@ -186,4 +202,6 @@ append-answer-spec =
     same-length-7
     returns-7
     same-length-8
-    returns-8)
+    returns-8
+    same-length-9
+    returns-9)

@@ -1,0 +1,2 @@
+-- What the checks of PUNFIX come to, in code.
+pub mod Left
