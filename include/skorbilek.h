@@ -44,13 +44,14 @@ enum {
 /* What kind of answer it is, and which fields of skorbilek_answer it fills. */
 enum {
     SKORBILEK_REFUSED = 0, /* any call: `refusal` says why, with 5 `reason` too; table and memory are as they were */
-    SKORBILEK_DONE = 1,    /* pfix, pmerge, punmerge, punfix, write, page_check, page_write: accepted */
+    SKORBILEK_DONE = 1,    /* pfix, pmerge, punmerge, write, page_check, page_write: accepted */
     SKORBILEK_NONE = 2,    /* rmpupdate: accepted, and no open page was closed */
     SKORBILEK_CLOSED = 3,  /* rmpupdate: accepted, and the page of guest `asid` at `gpa` was closed */
     SKORBILEK_OPENED = 4,  /* pvalidate: the page is open now */
     SKORBILEK_ALREADY = 5, /* pvalidate: the page was open already */
     SKORBILEK_WORD = 6,    /* read: `value` is the word */
-    SKORBILEK_COUNT = 7    /* census: `value` is the number of places */
+    SKORBILEK_COUNT = 7,   /* census: `value` is the number of places */
+    SKORBILEK_UNFIXED = 8  /* punfix: accepted, and the page is guest `asid`'s now, or nobody's where `asid` is 0 */
 };
 
 /* Why a call was refused. The checks of a call are made in a fixed order, and the first that fails gives its number. */
@@ -66,12 +67,12 @@ enum {
     SKORBILEK_REFUSAL_NOT_VALIDATED = 9,  /* the guest has not accepted the page */
     SKORBILEK_REFUSAL_FIXED = 10,         /* the page is fixed and must not be */
     SKORBILEK_REFUSAL_NOT_FIXED = 11,     /* the page is not fixed and must be */
-    SKORBILEK_REFUSAL_BROKEN_LEAF = 12,   /* the leaf's entry is no well formed LEAF, or the word consulted is misshapen */
+    SKORBILEK_REFUSAL_BROKEN_LEAF = 12,   /* the leaf's entry is no well formed LEAF, or its word is misshapen (punfix: or at index 0) */
     SKORBILEK_REFUSAL_NO_PLACE = 13,      /* the guest has no place in the fixed page */
     SKORBILEK_REFUSAL_PLACE_TAKEN = 14,   /* the guest has a place in the fixed page already */
     SKORBILEK_REFUSAL_LEAF_IN_USE = 15,   /* another fixed page has this leaf */
     SKORBILEK_REFUSAL_CONTENTS = 16,      /* the two frames differ */
-    SKORBILEK_REFUSAL_STILL_SHARED = 17   /* another guest than the owner is left in the leaf */
+    SKORBILEK_REFUSAL_STILL_SHARED = 17   /* two or more words of the leaf are present, misshapen or not */
 };
 
 /* What is bad in the entry that SKORBILEK_REFUSAL_BAD_ENTRY is given for. The rules of an entry are looked at in this order, and the first
@@ -87,8 +88,8 @@ enum {
 /* An answer. A field that its kind does not fill is 0. A call was accepted where `kind != SKORBILEK_REFUSED`. */
 typedef struct skorbilek_answer {
     uint64_t refusal; /* the refusal's number, 1 to 17; 0 if the call was accepted */
-    uint64_t kind;    /* SKORBILEK_REFUSED .. SKORBILEK_COUNT */
-    uint64_t asid;    /* CLOSED: whose page */
+    uint64_t kind;    /* SKORBILEK_REFUSED .. SKORBILEK_UNFIXED */
+    uint64_t asid;    /* CLOSED: whose page; UNFIXED: whose page it is now, 0 for nobody's */
     uint64_t gpa;     /* CLOSED: the address that it had */
     uint64_t value;   /* WORD: the word; COUNT: how many places */
     uint64_t reason;  /* with refusal 5, SKORBILEK_REASON_SPARE_BITS .. SKORBILEK_REASON_ADDRESS; else 0 */
@@ -115,7 +116,8 @@ skorbilek_answer skorbilek_pmerge(uint64_t *table, size_t table_words, uint64_t 
 skorbilek_answer skorbilek_punmerge(uint64_t *table, size_t table_words, uint64_t *memory, size_t memory_words, uint64_t caller,
                                     uint64_t hpa1, uint64_t hpa2, uint64_t asid);
 
-/* PUNFIX: the host gives the fixed page at hpa back to its owner, the last guest in it; its leaf becomes SHARED. Answers DONE. */
+/* PUNFIX: the host gives the fixed page at hpa to the only guest that is left in it, or, where none is, makes it SHARED, with all words
+   zero. Its leaf becomes SHARED. Answers UNFIXED. */
 skorbilek_answer skorbilek_punfix(uint64_t *table, size_t table_words, uint64_t *memory, size_t memory_words, uint64_t caller,
                                   uint64_t hpa);
 

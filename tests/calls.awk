@@ -22,7 +22,7 @@ function answered(answer) {
     sub(/ +$/, "", answer)
     if (answer ~ /^Refused, /) { sub(/^Refused, /, "no ", answer); sub(/:.*/, "", answer) }
     else if (answer ~ /^Closed /) { gsub(/[{},:]|asid|gpa/, "", answer); gsub(/ +/, " ", answer); sub(/ $/, "", answer); sub(/^Closed/, "ok closed", answer) }
-    else if (answer ~ /^(Word|Count)\(/) { gsub(/Word|Count|[()]/, "", answer); answer = "ok " answer }
+    else if (answer ~ /^(Word|Count|Unfixed)\(/) { sub(/\).*/, "", answer); sub(/.*\(/, "", answer); answer = "ok " answer }
     else if (answer == "Done") answer = "ok"
     else answer = "ok " tolower(answer)
     print letter[name] " " answer > output

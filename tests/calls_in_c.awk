@@ -28,7 +28,7 @@ function answered(said) {
     }
     if (said ~ /^Refused, /) { sub(/^Refused, /, "", said); sub(/:.*/, "", said); said = ".refusal = " said }
     else if (said ~ /^Closed /) { gsub(/ *[{}] *|:|^Closed/, "", said); gsub(/asid/, ".asid =", said); gsub(/gpa/, ".gpa =", said); said = ".kind = SKORBILEK_CLOSED, " said }
-    else if (match(said, /\(.*\)/)) said = ".kind = SKORBILEK_" toupper(substr(said, 1, RSTART - 1)) ", .value = " substr(said, RSTART + 1, RLENGTH - 2)
+    else if (match(said, /\([^)]*\)/)) said = ".kind = SKORBILEK_" toupper(substr(said, 1, RSTART - 1)) (said ~ /^Unfixed/ ? ", .asid = " : ", .value = ") substr(said, RSTART + 1, RLENGTH - 2)
     else { sub(/:.*/, "", said); said = ".kind = SKORBILEK_" toupper(said) }
     print "answers" made "(skorbilek_answer){" said "});"
 }

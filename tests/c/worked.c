@@ -44,7 +44,7 @@ int main(void)
     no(skorbilek_write(LENT, 7, 0x50000, 0x1000, 2, 2, 3, 0x2b), SKORBILEK_REFUSAL_FIXED);
     no(skorbilek_punfix(LENT, 0, 0x1000), SKORBILEK_REFUSAL_STILL_SHARED);
     ok(skorbilek_punmerge(LENT, 0, 0x1000, 0x4000, 9), SKORBILEK_DONE);
-    ok(skorbilek_punfix(LENT, 0, 0x1000), SKORBILEK_DONE);
+    told(skorbilek_punfix(LENT, 0, 0x1000), 0, SKORBILEK_UNFIXED, 7, 0, 0);
     ok(skorbilek_write(LENT, 7, 0x50000, 0x1000, 2, 2, 3, 0x2b), SKORBILEK_DONE);
     told(skorbilek_read(LENT, 9, 0x60000, 0x4000, 2, 2, 3), 0, SKORBILEK_WORD, 0, 0, 0x2a);
     told(skorbilek_census(LENT, 9), 0, SKORBILEK_COUNT, 0, 0, 1);

@@ -1,10 +1,10 @@
-//! PFIX and PUNFIX, accepted.
+//! PFIX, accepted, and PUNFIX, accepted and refused with 17.
 
-use common::layout::{address, present, word_at, Entry, ENTRY_WORDS};
+use common::layout::{address, present, word_at, Entry, ENTRY_WORDS, FRAME_WORDS};
 use skorbilek::HOST;
 
-use super::repeated;
 use super::tables::{mixed, uniform, PAGES};
+use super::{repeated, steady};
 use crate::calls::{Pfix, Punfix};
 use crate::scene::{Scene, Turn};
 use crate::world::{gpa, guest, mergeable, World};
@@ -38,24 +38,75 @@ fn fixed(world: World) -> Scene<Pfix, ENTRY_WORDS, 0> {
     Scene { world, turns }
 }
 
-/// PUNFIX of a page that only its owner is in. Its entry, word 0 of the leaf's and the owner's word in the leaf are put back.
-pub fn unfixed(n: usize) -> Scene<Punfix, 3, 1> {
+/// PUNFIX of a page that only its owner is in.
+pub fn owner_left(n: usize) -> Scene<Punfix, 3, 1> {
+    unfixed(n, |page| (guest(page), present(gpa(page))))
+}
+
+/// PUNFIX of a page that only another guest is in.
+pub fn another_left(n: usize) -> Scene<Punfix, 3, 1> {
+    unfixed(n, |page| (guest(page + 1), present(gpa(page))))
+}
+
+/// PUNFIX of a page that nobody is in.
+pub fn nobody_left(n: usize) -> Scene<Punfix, 3, 1> {
+    unfixed(n, |page| (guest(page), 0))
+}
+
+/// The frames of a fixed page and of its leaf.
+fn frames(slot: usize) -> (usize, usize) {
+    (2 * slot, 2 * slot + 1)
+}
+
+fn unfix(page: usize) -> Punfix {
+    Punfix {
+        caller: HOST,
+        hpa: address(page),
+    }
+}
+
+/// PUNFIX of a page in whose leaf this guest's word is this, and no other is present. The page's entry, word 0 of the leaf's and the
+/// guest's word are put back; the page's zeros were zeros before.
+fn unfixed(n: usize, left: fn(usize) -> (u64, u64)) -> Scene<Punfix, 3, 1> {
     let mut world = World::new(n);
     let turns = (0..FIXED).map(|slot| {
-        let (page, leaf) = (2 * slot, 2 * slot + 1);
-        let asid = guest(page);
-        world.fix(page, leaf, asid);
-        let [head, leaf_address] = world.entry(page).placed(page);
+        let (page, leaf) = frames(slot);
+        let (asid, word) = left(page);
+        let fixed = Entry::fixed(guest(page), address(leaf));
+        world.put(page, fixed);
+        world.put(leaf, Entry::LEAF);
+        world.set(leaf, asid as usize, word);
+        let [head, leaf_address] = fixed.placed(page);
         let [leaf_head, _] = Entry::LEAF.placed(leaf);
         Turn {
-            call: Punfix {
-                caller: HOST,
-                hpa: address(page),
-            },
+            call: unfix(page),
             table: [head, leaf_address, leaf_head],
-            memory: [(word_at(leaf, asid as usize), present(gpa(page)))],
+            memory: [(word_at(leaf, asid as usize), word)],
         }
     });
     let turns = repeated(turns.collect());
     Scene { world, turns }
+}
+
+/// PUNFIX of a page whose owner's word and the next are present.
+pub fn next_present(n: usize) -> Scene<Punfix, 0, 0> {
+    still_shared(n, |owner| owner + 1)
+}
+
+/// PUNFIX of a page whose owner's word and the last are present.
+pub fn last_present(n: usize) -> Scene<Punfix, 0, 0> {
+    still_shared(n, |_| FRAME_WORDS - 1)
+}
+
+fn still_shared(n: usize, second: fn(usize) -> usize) -> Scene<Punfix, 0, 0> {
+    let mut world = World::new(n);
+    for (page, leaf) in (0..FIXED).map(frames) {
+        let owner = guest(page);
+        world.fix(page, leaf, owner);
+        world.set(leaf, second(owner as usize), present(gpa(page)));
+    }
+    Scene {
+        world,
+        turns: steady(FIXED, |slot| unfix(frames(slot).0)),
+    }
 }

@@ -34,7 +34,7 @@ macro_rules! case {
 const TURNS: usize = 32;
 
 /// Accepted calls, on warm frames.
-pub const ACCEPTED: [Case; 17] = [
+pub const ACCEPTED: [Case; 19] = [
     case!(
         "RMPUPDATE, the ASID stays",
         Expect::Accepted,
@@ -54,7 +54,21 @@ pub const ACCEPTED: [Case; 17] = [
     case!("PFIX, mixed table", Expect::Accepted, fixing::fixed_mixed),
     case!("PMERGE", Expect::Accepted, merging::merged),
     case!("PUNMERGE", Expect::Accepted, merging::unmerged),
-    case!("PUNFIX", Expect::Accepted, fixing::unfixed),
+    case!(
+        "PUNFIX, the owner is left",
+        Expect::Accepted,
+        fixing::owner_left
+    ),
+    case!(
+        "PUNFIX, another is left",
+        Expect::Accepted,
+        fixing::another_left
+    ),
+    case!(
+        "PUNFIX, nobody is left",
+        Expect::Accepted,
+        fixing::nobody_left
+    ),
     case!("READ, own page", Expect::Accepted, access::read_own),
     case!("READ, merged page", Expect::Accepted, access::read_merged),
     case!("READ, SHARED frame", Expect::Accepted, access::read_shared),
@@ -67,7 +81,7 @@ pub const ACCEPTED: [Case; 17] = [
 ];
 
 /// Refused calls, on warm frames.
-pub const REFUSED: [Case; 17] = [
+pub const REFUSED: [Case; 19] = [
     case!(
         "PMERGE, 16: the last word differs",
         Expect::Refused(16),
@@ -77,6 +91,16 @@ pub const REFUSED: [Case; 17] = [
         "PMERGE, 16: the first word differs",
         Expect::Refused(16),
         merging::first_differs
+    ),
+    case!(
+        "PUNFIX, 17: the last word is present too",
+        Expect::Refused(17),
+        fixing::last_present
+    ),
+    case!(
+        "PUNFIX, 17: the next word is present too",
+        Expect::Refused(17),
+        fixing::next_present
     ),
     case!("RMPUPDATE, 3", Expect::Refused(3), refused::rmpupdate),
     case!("PVALIDATE, 3", Expect::Refused(3), refused::pvalidate),

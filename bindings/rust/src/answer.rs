@@ -17,7 +17,7 @@ pub(crate) struct Flat {
 /// What an accepted call answers.
 #[derive(Clone, Copy, PartialEq, Eq, Hash, Debug)]
 pub enum Answer {
-    /// PFIX, PMERGE, PUNMERGE, PUNFIX, WRITE, and the check or the writing of a whole page: it is done.
+    /// PFIX, PMERGE, PUNMERGE, WRITE, and the check or the writing of a whole page: it is done.
     Done,
     /// RMPUPDATE: no open page was closed.
     None,
@@ -36,6 +36,11 @@ pub enum Answer {
     Word(u64),
     /// CENSUS: how many places the guest has.
     Count(u64),
+    /// PUNFIX: the page is this guest's now, or nobody's.
+    Unfixed {
+        /// The guest; 0 if none was left in the page.
+        asid: u64,
+    },
 }
 
 /// Why a call was refused: the first of its checks that failed. Table and memory are then as they were.
@@ -64,7 +69,7 @@ pub enum Refusal {
     Fixed,
     /// 11: the page is not fixed and must be.
     NotFixed,
-    /// 12: the leaf's entry is no well formed LEAF, or the word consulted is misshapen.
+    /// 12: the leaf's entry is no well formed LEAF, or the word consulted is misshapen (PUNFIX: or at index 0).
     BrokenLeaf,
     /// 13: the guest has no place in the fixed page.
     NoPlace,
@@ -74,7 +79,7 @@ pub enum Refusal {
     LeafInUse,
     /// 16: the two frames differ.
     Contents,
-    /// 17: another guest than the owner is left in the leaf.
+    /// 17: two or more words of the leaf are present, misshapen or not.
     StillShared,
 }
 
@@ -268,6 +273,7 @@ impl Flat {
             5 => Ok(Answer::Already),
             6 => Ok(Answer::Word(self.value)),
             7 => Ok(Answer::Count(self.value)),
+            8 => Ok(Answer::Unfixed { asid: self.asid }),
             _ => self.unknown(),
         }
     }
@@ -303,6 +309,31 @@ mod tests {
         #[rustfmt::skip]
         let flat = Flat { refusal, kind, asid, gpa, value, reason };
         flat.answer()
+    }
+
+    #[test]
+    fn each_kind_is_another_answer() {
+        let [refusal, reason] = [0; 2];
+        let [asid, gpa, value] = [7, 0x50000, 42];
+        let told = |kind| {
+            #[rustfmt::skip]
+            let flat = Flat { refusal, kind, asid, gpa, value, reason };
+            flat.answer()
+        };
+        let answers = [
+            Answer::Done,
+            Answer::None,
+            Answer::Closed { asid, gpa },
+            Answer::Opened,
+            Answer::Already,
+            Answer::Word(value),
+            Answer::Count(value),
+            Answer::Unfixed { asid },
+        ];
+        for (kind, answer) in (1..).zip(answers) {
+            assert_eq!(told(kind), Ok(answer));
+        }
+        assert!(catch_unwind(|| told(9)).is_err());
     }
 
     #[test]

@@ -188,19 +188,26 @@ pub fn punmerge(
     unsafe { skorbilek_punmerge(t, n, m, w, caller, hpa1, hpa2, asid) }.answer()
 }
 
-/// PUNFIX: the host gives the fixed page at `hpa` back to its owner, the last guest in it; its leaf becomes SHARED. Answers
-/// [`Answer::Done`].
+/// PUNFIX: the host gives the fixed page at `hpa` to the only guest that is left in it, or, where none is, makes it SHARED, with all words
+/// zero. Its leaf becomes SHARED. Answers [`Answer::Unfixed`].
 ///
 /// ```
 /// # use skorbilek::*;
 /// # let (mut table, mut memory) = ([0; 16], vec![0; 5120]);
-/// # rmpupdate(&mut table, &mut memory, HOST, 0x1000, 0x50000, 7, MERGEABLE)?;
-/// # pvalidate(&mut table, &memory, 7, 0x50000, 0x1000, MERGEABLE)?;
+/// # for (guest, gpa, hpa) in [(7, 0x50000, 0x1000), (9, 0x60000, 0x2000)] {
+/// #     rmpupdate(&mut table, &mut memory, HOST, hpa, gpa, guest, MERGEABLE)?;
+/// #     pvalidate(&mut table, &memory, guest, gpa, hpa, MERGEABLE)?;
+/// # }
 /// # rmpupdate(&mut table, &mut memory, HOST, 0x3000, 0, 0, LEAF)?;
 /// # pfix(&mut table, &mut memory, HOST, 0x1000, 0x3000)?;
-/// // guest 7 alone is in the fixed page in frame 1
-/// punfix(&mut table, &mut memory, HOST, 0x1000)?;
-/// assert_eq!(punfix(&mut table, &mut memory, HOST, 0x1000), Err(Refusal::NotFixed));
+/// # pmerge(&mut table, &mut memory, HOST, 0x1000, 0x2000)?;
+/// // guests 7 and 9 are in the fixed page in frame 1, which is guest 7's
+/// assert_eq!(punfix(&mut table, &mut memory, HOST, 0x1000), Err(Refusal::StillShared));
+///
+/// // guest 7 leaves it, so that it becomes guest 9's
+/// punmerge(&mut table, &mut memory, HOST, 0x1000, 0x2000, 7)?;
+/// assert_eq!(punfix(&mut table, &mut memory, HOST, 0x1000)?, Answer::Unfixed { asid: 9 });
+/// write(&table, &mut memory, 9, 0x60000, 0x1000, MERGEABLE, MERGEABLE, 3, 1)?;
 /// # Ok::<(), Refusal>(())
 /// ```
 #[inline]

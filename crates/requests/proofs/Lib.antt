@@ -8,3 +8,4 @@ pub mod Refused
 pub mod Run
 pub mod Shared
 pub mod Thinned
+pub mod Unstuck

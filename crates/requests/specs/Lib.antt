@@ -6,3 +6,4 @@ pub mod Pages
 pub mod Reasons
 pub mod Requests
 pub mod Run
+pub mod Unstuck

@@ -6,7 +6,6 @@ use mathlib.Core.Bool.{Bool, true, false, false≢true}
 use mathlib.Core.Logic.{_≢_, _⊎_, inl, inr, ⊎-elim}
 use Prim.Native.Nat.{ℕ, zero, suc, _<_, _≤_}
 use native.Mathlib.Omega.{arith}
-use lib.Dec.{eqb}
 use borrow.Author.Tests.{eqb-true, eq-eqb}
 use Rattle.words.specs.Choice.{pick, _and_, _or_}
 use Rattle.words.proofs.ChoiceLaws.{same-or-not, pick-true, pick-false}
@@ -126,7 +125,7 @@ unused-below s leaf (suc n) f e free below here fixed =
     (λ other. unused-below s leaf n f e (not-named _ _ free .0) (omega (arith, other)) here fixed)
     (same-or-not f n)
 
-same-frame : (a b : ℕ) → isAddress a ≡ true → isAddress b ≡ true → frameOf a ≡ frameOf b → a ≡ b
+pub same-frame : (a b : ℕ) → isAddress a ≡ true → isAddress b ≡ true → frameOf a ≡ frameOf b → a ≡ b
 unfolding frameOf
 same-frame a b h k same = let p = address-whole a h in let q = address-whole b k in omega arith
 

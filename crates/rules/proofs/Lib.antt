@@ -11,6 +11,7 @@ pub mod Changes
 pub mod Consulted
 pub mod Effects
 pub mod FirstReason
+pub mod Granted
 pub mod History
 pub mod HistoryFrom
 pub mod HistoryLists

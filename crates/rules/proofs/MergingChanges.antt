@@ -221,7 +221,7 @@ module _ {s : State} (sound : Sound s) {caller hpa1 hpa2 asid : ℕ} {one two : 
   unmerge-effect = unmerging-does p
 
   -- frame 1 is MERGEABLE and frame 2 is SHARED
-  unmerge-apart : frameOf hpa1 ≢ frameOf hpa2
+  pub unmerge-apart : frameOf hpa1 ≢ frameOf hpa2
   unmerge-apart same =
       let q = same-good s _ _ (p .here1) (p .here2) same in
       let k = p .type1 in

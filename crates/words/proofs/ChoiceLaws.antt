@@ -45,6 +45,10 @@ module _ (s t : Bool) where
   unfolding _and_
   and-right = elim s [ true ↦ λ e. e | false ↦ λ e. absurd (false≢true e) ]
 
+  pub both-true : s ≡ true → t ≡ true → s and t ≡ true
+  unfolding _and_
+  both-true h k = rw (h, k)
+
   pub and-not : t ≡ false → s and t ≡ false
   unfolding _and_
   and-not h = elim s [ true ↦ h | false ↦ refl ]

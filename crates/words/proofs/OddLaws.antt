@@ -1,7 +1,6 @@
 -- The odd words of a run, of any length: how many there are among the first n, and the last of them.
 -- Assumes nothing.
 use mathlib.Core.Path.{_≡_, refl, sym, _∙_}
-use mathlib.Core.Bool.{true, false}
 use mathlib.Core.List.{List, []}
 use mathlib.Core.Logic.{_≢_, _⊎_, ⊎-elim, inl, inr}
 use Prim.Native.Nat.{ℕ, zero, suc, _+_, _*_, _%_, _^_, _<_, _≤_}
@@ -13,7 +12,7 @@ use borrow.Author.Tests.{eq-eqb, ne-eqb}
 use Rattle.words.specs.Choice.{pick}
 use Rattle.words.specs.Run.{odd, lastOdd, oddOf}
 use Rattle.words.specs.declared.run.Odd.the-variants.{None, One, Several}
-use Rattle.words.proofs.ChoiceLaws.{same-or-not, true-or-false, pick-true, pick-false}
+use Rattle.words.proofs.ChoiceLaws.{same-or-not, pick-true, pick-false}
 
 -- none of no words is odd, and the next word adds its bit 0
 pub odd-none : (words : List ℕ) → odd words 0 ≡ 0
@@ -104,7 +103,7 @@ place-of-one words count place counts at =
     ⊎-elim (λ one. rw (← counts, at one)) (λ (other : count ≢ 1). rw (← counts, ne-eqb count 1 other)) (same-or-not count 1)
 
 -- ---- rows of four words
-whole : (n : ℕ) → n < 2 ^ 64 → n % 2 ^ 64 ≡ n
+whole : (n : ℕ) → n < 2 ^ 32 → n % 2 ^ 32 ≡ n
 whole n h = omega arith
 
 -- What is known of the columns after i rows: how many words of each are odd and, where no more than one word is, the sums of these counts
@@ -169,10 +168,10 @@ module _ (words : List ℕ) (i : ℕ) where
       (rw three at (last-next words (4 * i + 2))))
       (last-next words (4 * i + 3))
 
-  -- where the last odd word is known, the sums are no more than the rows; so in 64 bits they are the sums themselves
-  module _ {a b c d x y z w : ℕ} (small : i + 1 < 2 ^ 64) (so-far : Rows words i a b c d x y z w) where
+  -- where the last odd word is known, the sums are no more than the rows; so in 32 bits they are the sums themselves
+  module _ {a b c d x y z w : ℕ} (small : i + 1 < 2 ^ 32) (so-far : Rows words i a b c d x y z w) where
     abbrev SumsTo : ℕ → Type 0
-    SumsTo total = (x + (a + p)) % 2 ^ 64 + (y + (b + q)) % 2 ^ 64 + (z + (c + r)) % 2 ^ 64 + (w + (d + s)) % 2 ^ 64 ≡ total
+    SumsTo total = (x + (a + p)) % 2 ^ 32 + (y + (b + q)) % 2 ^ 32 + (z + (c + r)) % 2 ^ 32 + (w + (d + s)) % 2 ^ 32 ≡ total
 
     sums : (total : ℕ) → x + (a + p) + (y + (b + q)) + (z + (c + r)) + (w + (d + s)) ≡ total → total ≤ i + 1 → SumsTo total
     sums total is few =
@@ -205,8 +204,8 @@ module _ (words : List ℕ) (i : ℕ) where
         (same-or-not (a + b + c + d) 0)
 
     pub rows-next :
-        Rows words (i + 1) (a + p) (b + q) (c + r) (d + s) ((x + (a + p)) % 2 ^ 64) ((y + (b + q)) % 2 ^ 64) ((z + (c + r)) % 2 ^ 64)
-        ((w + (d + s)) % 2 ^ 64)
+        Rows words (i + 1) (a + p) (b + q) (c + r) (d + s) ((x + (a + p)) % 2 ^ 32) ((y + (b + q)) % 2 ^ 32) ((z + (c + r)) % 2 ^ 32)
+        ((w + (d + s)) % 2 ^ 32)
     rows-next =
         record {
           counts = omega (arith, row-counts, so-far .counts);

@@ -5,7 +5,7 @@ use mathlib.Core.Path.{_≡_, refl, sym, ap, _∙_}
 use mathlib.Core.Bool.{Bool, true, false}
 use mathlib.Core.List.{List, [], _++_, append-nil}
 use mathlib.Core.Logic.{_⊎_, inl, inr}
-use Prim.Native.Nat.{ℕ, zero, suc, min, _+_, _-_, _%_, _≤_, _<_}
+use Prim.Native.Nat.{ℕ, zero, suc, min, _+_, _-_, _≤_, _<_}
 use native.Mathlib.Nat.{zero-add}
 use native.Mathlib.Numerals.{add-one}
 use native.Mathlib.Omega.{arith}
@@ -14,7 +14,7 @@ use lib.ListN.{length, getD, set, take, drop, drop-of-length-le, List·getD-appe
 use lib.Seq.{paste, getD-append-add, getD-take, getD-drop, length-take-le, take-length, paste-suc, length-paste-head}
 use borrow.Author.Tests.{eqb-true, eq-eqb, ne-eqb}
 use Rattle.words.specs.Choice.{pick}
-use Rattle.words.specs.Run.{copied, differing, odd}
+use Rattle.words.specs.Run.{copied, differing}
 use Rattle.words.proofs.ChoiceLaws.{lt-or-le}
 
 -- the words after a paste: the run's where it was laid, and before and after it those that stood there

@@ -16,5 +16,6 @@ pub fn translated(answer: Result<Answer, Refusal>) -> second::Answer {
         Ok(Answer::Already) => second::Answer::Already,
         Ok(Answer::Word(word)) => second::Answer::Word(word),
         Ok(Answer::Count(count)) => second::Answer::Count(count),
+        Ok(Answer::Unfixed { asid }) => second::Answer::Unfixed { asid },
     }
 }

@@ -3,7 +3,7 @@
 use std::collections::BTreeMap;
 use std::fmt;
 
-use common::layout::{frame_of, gpa_of};
+use common::layout::{frame_of, gpa_of, is_present};
 use second::{Answer, Call, Request};
 
 use crate::monitor::Outcome;
@@ -19,7 +19,9 @@ enum Event {
     MergedAgain,
     Unmerge,
     OwnerUnmerged,
-    Unfix,
+    UnfixedToOwner,
+    UnfixedToAnother,
+    UnfixedToNobody,
     Read,
     MovedRead,
     PageWritten,
@@ -27,7 +29,7 @@ enum Event {
 }
 
 /// By the order of `Event`.
-const NAMES: [&str; 12] = [
+const NAMES: [&str; 14] = [
     "openings",
     "openings of an address that was opened before",
     "closings",
@@ -35,7 +37,9 @@ const NAMES: [&str; 12] = [
     "merges of a page that was merged or unmerged before",
     "unmerges",
     "unmerges of the owner",
-    "unfixes",
+    "unfixes to the owner",
+    "unfixes to another guest",
+    "unfixes to nobody",
     "reads at an address that was opened once",
     "reads at an address that was opened once, of a page that was merged or unmerged",
     "whole pages written",
@@ -58,14 +62,14 @@ pub struct Past {
     pages: BTreeMap<u64, Vec<u64>>,
 }
 
-/// Whose page a PMERGE or PUNMERGE moves.
+/// Whose place a PMERGE, PUNMERGE or PUNFIX moves, and whether that is the owner of the fixed page.
 #[derive(Clone, Copy)]
 pub struct Moved {
     holding: Holding,
     owner: bool,
 }
 
-/// Whose page the request moves, if it is accepted in this state.
+/// Whose place the request moves, if it is accepted in this state.
 pub fn moved(request: &Request, before: &State) -> Option<Moved> {
     let Request::Call(call) = request else {
         return None;
@@ -74,24 +78,26 @@ pub fn moved(request: &Request, before: &State) -> Option<Moved> {
         let frame = frame_of(hpa);
         (frame < before.n()).then(|| before.entry(frame))
     };
-    match *call {
-        Call::Pmerge { hpa2, .. } => {
-            let page = page(hpa2)?;
-            Some(Moved {
-                holding: (page.asid, page.address),
-                owner: false,
-            })
+    let (fixed, holding) = match *call {
+        Call::Pmerge { hpa1, hpa2, .. } => {
+            let merged = page(hpa2)?;
+            (page(hpa1)?, (merged.asid, merged.address))
         }
         Call::Punmerge { hpa1, asid, .. } => {
             let fixed = page(hpa1)?;
             let &word = before.leaf(fixed)?.get(usize::try_from(asid).ok()?)?;
-            Some(Moved {
-                holding: (asid, gpa_of(word)),
-                owner: asid == fixed.asid,
-            })
+            (fixed, (asid, gpa_of(word)))
         }
-        _ => None,
-    }
+        Call::Punfix { hpa, .. } => {
+            let fixed = page(hpa)?;
+            let mut words = (0..).zip(before.leaf(fixed)?);
+            let (asid, &word) = words.find(|(_, &word)| is_present(word))?;
+            (fixed, (asid, gpa_of(word)))
+        }
+        _ => return None,
+    };
+    let owner = holding.0 == fixed.asid;
+    Some(Moved { holding, owner })
 }
 
 impl Counts {
@@ -131,7 +137,12 @@ impl Counts {
             (Call::Pmerge { .. } | Call::Punmerge { .. }, Answer::Done) => {
                 self.note_move(call, moved, past);
             }
-            (Call::Punfix { .. }, Answer::Done) => self.add(Event::Unfix, true),
+            (Call::Punfix { .. }, Answer::Unfixed { asid }) => {
+                let owner = moved.is_some_and(|moved| moved.owner);
+                self.add(Event::UnfixedToOwner, asid != 0 && owner);
+                self.add(Event::UnfixedToAnother, asid != 0 && !owner);
+                self.add(Event::UnfixedToNobody, asid == 0);
+            }
             #[rustfmt::skip]
             (Call::Read { caller, gpa, gtype: 1 | 2, .. }, Answer::Word(_)) => {
                 let once = past.openings.get(&(caller, gpa)) == Some(&1);

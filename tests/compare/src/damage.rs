@@ -1,19 +1,22 @@
 //! What can be wrong with a table and its leaves: things that no history of calls brings about.
 
 use common::layout::{
-    address, frame_of, present, Entry, ADDRESSES, ADDRESS_END, ENTRY_WORDS, FRAME_BYTES, LEAF,
-    MERGEABLE, PRIVATE, SHARED, UNUSED_BITS,
+    address, frame_of, gpa_of, present, Entry, ADDRESSES, ADDRESS_END, ENTRY_WORDS, FRAME_BYTES,
+    LEAF, MERGEABLE, PRIVATE, SHARED, UNUSED_BITS,
 };
 
 use crate::random::Random;
 use crate::state::State;
+
+/// What makes a present word of a leaf misshapen.
+const NO_ADDRESSES: [u64; 6] = [2, 0x800, 0x50002, ADDRESS_END, 1 << 63, u64::MAX];
 
 /// Damages one word, entry or leaf. The state has the right sizes, or nearly.
 pub fn one(random: &mut Random, state: &mut State) {
     let frame = random.index(state.n());
     let roles = state.roles();
     let fixed = random.try_pick(&roles.fixed);
-    match (random.below(12), fixed) {
+    match (random.below(15), fixed) {
         (0, _) => state.entry_mut(frame)[0] ^= 1 << random.below(64),
         (1, _) => state.entry_mut(frame)[1] ^= 1 << random.below(64),
         // a bit of a field, or one of the two unused bits above them
@@ -21,7 +24,8 @@ pub fn one(random: &mut Random, state: &mut State) {
         (3, _) => misfit(random, state, frame),
         (4 | 5, Some(page)) => spoil_leaf_entry(random, state, page),
         (6..=8, Some(page)) => spoil_leaf_word(random, state, page),
-        (9, Some(page)) => {
+        (9..=11, Some(page)) => thin_leaf(random, state, page),
+        (12, Some(page)) => {
             // two fixed pages with one leaf
             let leaf = state.entry(page).address;
             state.put(frame, Entry::fixed(7, leaf));
@@ -172,14 +176,32 @@ fn spoil_leaf_word(random: &mut Random, state: &mut State, page: usize) {
         1 => random.pick(&[1, 2, 7, 511]),
         _ => page.asid as usize,
     };
-    let addresses = [2, 0x800, 0x50002, ADDRESS_END, 1 << 63, u64::MAX];
     let Some(word) = state.frame_mut(leaf).and_then(|words| words.get_mut(asid)) else {
         return;
     };
     match random.below(4) {
         0 => *word ^= 1 << random.below(64),
         1 => *word = present(0x50000),
-        _ => *word = present(random.pick(&addresses)),
+        _ => *word = present(random.pick(&NO_ADDRESSES)),
+    }
+}
+
+/// A fixed page's leaf gets at most two present words, misshapen ones and word 0 among them.
+fn thin_leaf(random: &mut Random, state: &mut State, page: usize) {
+    let page = state.entry(page);
+    let Some(words) = state.frame_mut(frame_of(page.address)) else {
+        return;
+    };
+    words.iter_mut().for_each(|word| *word = gpa_of(*word)); // absent, whatever the other bits
+    for _ in 0..random.pick(&[0, 1, 1, 2, 2]) {
+        let asid = random.pick(&[0, 7, page.asid as usize]);
+        let gpa = match random.chance(50) {
+            true => 0x50000,
+            false => random.pick(&NO_ADDRESSES),
+        };
+        if let Some(word) = words.get_mut(asid) {
+            *word = present(gpa);
+        }
     }
 }
 

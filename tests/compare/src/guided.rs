@@ -265,7 +265,7 @@ impl Guide<'_> {
     fn unfix(&mut self) -> Option<Call> {
         let mut frame = self.random.try_pick(&self.roles.fixed)?;
         for _ in 0..3 {
-            if self.guests_in(self.state.entry(frame)).len() == 1 {
+            if self.guests_in(self.state.entry(frame)).len() <= 1 {
                 break;
             }
             frame = self.random.pick(&self.roles.fixed);
@@ -342,20 +342,23 @@ impl Guide<'_> {
         Some(Call::Census { asid: self.guest() })
     }
 
-    /// What a host would try: a guest that has a place reads, opens or is given another frame at the same address, or writes to a page
-    /// that is merged.
+    /// What a host would try: a guest that has a place reads, opens or is given another frame at the same address, a fixed one as often
+    /// as any, or writes to a page that is merged.
     fn elsewhere(&mut self) -> Option<Call> {
         let place = self.place()?;
-        let frame = self.random.index(self.state.m().max(1));
-        Some(match self.random.below(4) {
-            0 => self.read_of(&place, frame),
-            1 => Call::Pvalidate {
+        let frame = match self.random.try_pick(&self.roles.fixed) {
+            Some(fixed) if self.random.chance(50) => fixed,
+            _ => self.random.index(self.state.m().max(1)),
+        };
+        Some(match self.random.below(6) {
+            0..=2 => self.read_of(&place, frame),
+            3 => Call::Pvalidate {
                 caller: place.asid,
                 gpa: place.gpa,
                 hpa: address(frame),
                 kind: place.kind,
             },
-            2 => {
+            4 => {
                 let frame = self.random.try_pick(&self.roles.shared)?;
                 self.update_of(frame, place.asid, place.gpa, place.kind)
             }

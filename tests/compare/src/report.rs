@@ -132,6 +132,7 @@ fn answered(answer: Answer) -> String {
         Answer::Refused { number, reason: 0 } => format!("refused with {number}"),
         Answer::Refused { number, reason } => format!("refused with {number}, reason {reason}"),
         Answer::Closed { asid, gpa } => format!("closed {asid:x} {gpa:x}"),
+        Answer::Unfixed { asid } => format!("unfixed {asid:x}"),
         Answer::Word(word) => format!("word {word:x}"),
         Answer::Count(count) => format!("count {count:x}"),
         Answer::Done => "done".to_owned(),

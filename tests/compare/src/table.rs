@@ -10,7 +10,7 @@ use crate::reasons::Reasons;
 use crate::requests::{self, NAMES};
 use crate::state::State;
 
-/// Which calls can be accepted, and be refused with 1 to 17: docs/NAMES.md, 'Refusals', the column 'Can be given by'. The small letters
+/// Which calls can be accepted, and be refused with 1 to 17: docs/CALLS.md, 'Refusals', the column 'Can be given by'. The small letters
 /// are whole pages, whose access is SHARED: any party may make it, and nothing is asked of a page of a guest.
 pub const REACHABLE: [&str; 18] = [
     "UVFMDXRWCrwc", // accepted
@@ -26,7 +26,7 @@ pub const REACHABLE: [&str; 18] = [
     "UVFMW",        // 10, FIXED
     "MDX",          // 11, NOT FIXED
     "MDXRC",        // 12, BROKEN LEAF
-    "DXR",          // 13, NO PLACE
+    "DR",           // 13, NO PLACE
     "M",            // 14, PLACE TAKEN
     "F",            // 15, LEAF IN USE
     "M",            // 16, CONTENTS

@@ -72,6 +72,8 @@ pub enum Answer {
     Closed { asid: u64, gpa: u64 },
     Opened,
     Already,
+    /// The new owner of the page, `HOST` if it has none (document 02, Q-3).
+    Unfixed { asid: u64 },
     Word(u64),
     Count(u64),
 }
@@ -95,6 +97,7 @@ impl fmt::Display for Answer {
             Self::Closed { asid, gpa } => write!(f, "ok closed {asid:x} {gpa:x}"),
             Self::Opened => write!(f, "ok opened"),
             Self::Already => write!(f, "ok already"),
+            Self::Unfixed { asid } => write!(f, "ok {asid:x}"),
             Self::Word(number) | Self::Count(number) => write!(f, "ok {number:x}"),
         }
     }

@@ -4,9 +4,13 @@
 
 use crate::call::{Answer, Refusal};
 use crate::layout::{
-    frame_below, Entry, Kind, LeafWord, ENTRY_WORDS, FRAME_WORDS, MAX_MEMORY_FRAMES,
-    MAX_TABLE_FRAMES,
+    frame_below, is_present, Entry, Kind, LeafWord, ENTRY_WORDS, FRAME_WORDS, HOST,
+    MAX_MEMORY_FRAMES, MAX_TABLE_FRAMES,
 };
+
+/// Words of a leaf that are looked at together; any number gives the same
+/// answers.
+const RUN_WORDS: usize = 16;
 
 /// Runs the checks and the change of a call, and turns a refusal into its
 /// answer.
@@ -71,6 +75,16 @@ pub fn words_mut(memory: &mut [u64], frame: usize) -> &mut [u64; FRAME_WORDS] {
     &mut memory.as_chunks_mut().0[frame]
 }
 
+/// Refusal 12 for the leaf's entry: the number of the leaf's frame of this
+/// fixed page.
+#[inline]
+pub fn leaf_of(table: &[u64], page: Entry) -> Result<usize, Refusal> {
+    let leaf = page.leaf();
+    let is_leaf = entry(table, leaf).is_ok_and(|entry| entry.kind == Kind::Leaf);
+    require(is_leaf, Refusal::BrokenLeaf)?;
+    Ok(leaf)
+}
+
 /// Refusal 12, then the address at which the guest holds this fixed page, if
 /// it does.
 #[inline]
@@ -80,14 +94,44 @@ pub fn place_in_leaf(
     page: Entry,
     asid: u64,
 ) -> Result<Option<u64>, Refusal> {
-    let leaf = page.leaf();
-    let is_leaf = entry(table, leaf).is_ok_and(|entry| entry.kind == Kind::Leaf);
-    require(is_leaf, Refusal::BrokenLeaf)?;
+    let leaf = leaf_of(table, page)?;
     match LeafWord::decode(words(memory, leaf)[asid as usize]) {
         LeafWord::Absent => Ok(None),
         LeafWord::Present { gpa } => Ok(Some(gpa)),
         LeafWord::Misshapen => Err(Refusal::BrokenLeaf),
     }
+}
+
+/// Refusals 17 and 12, then the guest whose word in a leaf is the only present
+/// one, with the address in it; none if no word is present.
+pub fn only_place(leaf: &[u64; FRAME_WORDS]) -> Result<Option<(u64, u64)>, Refusal> {
+    let Some(index) = first_present(leaf) else {
+        return Ok(None);
+    };
+    let second = first_present(&leaf[index + 1..]);
+    require(second.is_none(), Refusal::StillShared)?;
+    let asid = index as u64;
+    match LeafWord::decode(leaf[index]) {
+        LeafWord::Present { gpa } if asid != HOST => Ok(Some((asid, gpa))),
+        _ => Err(Refusal::BrokenLeaf),
+    }
+}
+
+/// The index of the first word that is present, be it misshapen or not. Runs
+/// that have none are passed over whole, which is faster than word by word.
+#[inline]
+fn first_present(words: &[u64]) -> Option<usize> {
+    let (runs, _) = words.as_chunks();
+    let passed = runs.iter().take_while(|run| !any_present(run)).count();
+    let start = passed * RUN_WORDS;
+    let index = words[start..].iter().position(|&word| is_present(word))?;
+    Some(start + index)
+}
+
+/// Whether a word of the run is present, without a branch for each word.
+#[inline]
+fn any_present(run: &[u64; RUN_WORDS]) -> bool {
+    is_present(run.iter().fold(0, |bits, word| bits | word))
 }
 
 /// Whether some well formed fixed entry names the leaf at this address.
@@ -96,4 +140,57 @@ pub fn leaf_in_use(table: &[u64], leaf: u64) -> bool {
     entries.iter().any(|&[head, gpa]| {
         gpa == leaf && Entry::decode([head, gpa], entries.len()).is_ok_and(|entry| entry.fixed)
     })
+}
+
+#[cfg(test)]
+mod tests {
+    use super::*;
+
+    /// A leaf with these words; the others are absent, but not zero.
+    fn leaf(words: &[(usize, u64)]) -> [u64; FRAME_WORDS] {
+        let mut leaf = [!1; FRAME_WORDS];
+        for &(index, word) in words {
+            leaf[index] = word;
+        }
+        leaf
+    }
+
+    #[test]
+    fn no_present_word_is_no_place() {
+        for word in [0, 0x50000, 0x50002, !1] {
+            assert_eq!(only_place(&[word; FRAME_WORDS]), Ok(None));
+        }
+    }
+
+    #[test]
+    fn the_only_present_word_is_the_place_of_its_guest() {
+        for index in 1..FRAME_WORDS {
+            for gpa in [0, 0x50000, (1 << 52) - 0x1000] {
+                let place = only_place(&leaf(&[(index, gpa | 1)]));
+                assert_eq!(place, Ok(Some((index as u64, gpa))));
+            }
+        }
+    }
+
+    #[test]
+    fn the_only_present_word_is_12_at_index_0_or_misshapen() {
+        let broken = Err(Refusal::BrokenLeaf);
+        assert_eq!(only_place(&leaf(&[(0, 1)])), broken);
+        assert_eq!(only_place(&leaf(&[(0, 0x50001)])), broken);
+        for bit in (1..12).chain(52..64) {
+            for index in [0, 1, 7, 15, 16, 17, 511] {
+                assert_eq!(only_place(&leaf(&[(index, 1 << bit | 0x50001)])), broken);
+            }
+        }
+    }
+
+    #[test]
+    fn any_two_present_words_are_17() {
+        for second in 1..FRAME_WORDS {
+            for first in 0..second {
+                let place = only_place(&leaf(&[(first, 0x50001), (second, 0x60001)]));
+                assert_eq!(place, Err(Refusal::StillShared), "{first} {second}");
+            }
+        }
+    }
 }

@@ -4,7 +4,7 @@
 use std::collections::BTreeMap;
 
 use crate::call::{Answer, Call, Reply, Request};
-use crate::layout::{Entry, Kind, LeafWord, ENTRY_WORDS, FRAME_BYTES, FRAME_WORDS};
+use crate::layout::{is_asid, Entry, Kind, LeafWord, ENTRY_WORDS, FRAME_BYTES, FRAME_WORDS};
 
 /// A guest and one of its page addresses: ASID, GPA.
 type Holding = (u64, u64);
@@ -163,15 +163,12 @@ fn fits(call: &Call, answer: Answer) -> bool {
         }
         Answer::None | Answer::Closed { .. } => matches!(call, Call::Rmpupdate { .. }),
         Answer::Opened | Answer::Already => matches!(call, Call::Pvalidate { .. }),
+        Answer::Unfixed { asid } => matches!(call, Call::Punfix { .. }) && is_asid(asid),
         Answer::Word(_) => matches!(call, Call::Read { .. }),
         Answer::Count(_) => matches!(call, Call::Census { .. }),
         Answer::Done => matches!(
             call,
-            Call::Pfix { .. }
-                | Call::Pmerge { .. }
-                | Call::Punmerge { .. }
-                | Call::Punfix { .. }
-                | Call::Write { .. }
+            Call::Pfix { .. } | Call::Pmerge { .. } | Call::Punmerge { .. } | Call::Write { .. }
         ),
     }
 }
@@ -379,8 +376,72 @@ mod tests {
         let mut run = Run::new();
         assert!(run.claim("C 1", Answer::Done).is_err());
         assert!(run.claim("X 0 1000", Answer::Word(0)).is_err());
+        assert!(run.claim("X 0 1000", Answer::Done).is_err());
         assert!(run.claim("X 0 1000", refused(18)).is_err());
         assert!(run.claim("X 0 1000", refused(0)).is_err());
+    }
+
+    #[test]
+    fn only_punfix_names_a_new_owner() {
+        let mut run = Run::new();
+        for (asid, fits) in [(0, true), (1, true), (511, true), (512, false)] {
+            let unfixed = Answer::Unfixed { asid };
+            assert_eq!(run.claim("X 0 1000", unfixed).is_ok(), fits, "{asid}");
+            for line in [
+                "U 0 1000 50000 7 2",
+                "V 7 50000 1000 2",
+                "F 0 1000 3000",
+                "M 0 1000 2000",
+                "D 0 1000 4000 9",
+                "R 7 50000 1000 2 2 3",
+                "W 7 50000 1000 2 2 3 2a",
+                "C 7",
+            ] {
+                assert!(run.claim(line, unfixed).is_err(), "{line}");
+            }
+        }
+    }
+
+    /// Guests 7 and 9 were merged in frame 1, with the leaf in frame 3. Then 7,
+    /// the owner, got its copy in frame 4.
+    const OWNER_LEFT: [&str; 10] = [
+        "U 0 1000 50000 7 2",
+        "V 7 50000 1000 2",
+        "W 7 50000 1000 2 2 3 2a",
+        "U 0 2000 60000 9 2",
+        "V 9 60000 2000 2",
+        "W 9 60000 2000 2 2 3 2a",
+        "U 0 3000 0 0 3",
+        "F 0 1000 3000",
+        "M 0 1000 2000",
+        "D 0 1000 4000 7",
+    ];
+
+    #[test]
+    fn punfix_leaves_the_last_guest_its_place() {
+        let mut run = Run::new();
+        run.make_all(&OWNER_LEFT);
+        run.make_all(&["X 0 1000"]);
+        assert_eq!(run.table[2..4], [0x60009, 0x60000]);
+        run.make_all(&["R 9 60000 1000 2 2 3", "R 7 50000 4000 2 2 3"]);
+        run.make_all(&["W 9 60000 1000 2 2 3 2b", "R 9 60000 1000 2 2 3"]);
+        // Left with the old owner, at a wrong address, or freed.
+        for entry in [[0x60007, 0x50000], [0x60009, 0x50000], [0, 0]] {
+            run.table[2..4].copy_from_slice(&entry);
+            assert!(run.ledger.places(&run.table, &run.memory).is_err());
+        }
+    }
+
+    #[test]
+    fn punfix_frees_a_page_without_places() {
+        let mut run = Run::new();
+        run.make_all(&OWNER_LEFT);
+        run.make_all(&["D 0 1000 2000 9", "X 0 1000"]);
+        assert_eq!(run.table[2..4], [0, 0]);
+        run.make_all(&["R 9 60000 2000 2 2 3", "R 7 50000 4000 2 2 3"]);
+        // Left with the old owner.
+        run.table[2..4].copy_from_slice(&[0x60007, 0x50000]);
+        assert!(run.ledger.places(&run.table, &run.memory).is_err());
     }
 
     #[test]
@@ -451,7 +512,7 @@ mod tests {
 
     #[test]
     fn a_wrong_reply_for_a_page_is_caught() {
-        use Answer::{Already, Closed, Count, Done, None, Opened, Refused, Word};
+        use Answer::{Already, Closed, Count, Done, None, Opened, Refused, Unfixed, Word};
         let [asid, gpa] = [7, 0x50000];
         let words = [0; FRAME_WORDS + 1];
         for request in page_requests(gpa, 0x2000, 0) {
@@ -474,6 +535,7 @@ mod tests {
                 Closed { asid, gpa },
                 Opened,
                 Already,
+                Unfixed { asid },
                 Word(0),
                 Count(0),
             ] {

@@ -1,6 +1,7 @@
 //! A page ownership monitor: the nine calls of document 01 and the three of
 //! request Q-1 on a lent table and a lent memory, the script program, and a
-//! ledger for demand 3. Refusals are those of request Q-2.
+//! ledger for demand 3. Refusals are those of request Q-2, and PUNFIX is that
+//! of request Q-3.
 
 #![forbid(unsafe_code)]
 

@@ -178,6 +178,14 @@ mod tests {
     }
 
     #[test]
+    fn punfix_prints_the_new_owner() {
+        let call = Call::Punfix { caller: 0, hpa: 0 };
+        for (asid, line) in [(0, "X ok 0"), (7, "X ok 7"), (511, "X ok 1ff")] {
+            assert_eq!(reply(&call, Answer::Unfixed { asid }), line);
+        }
+    }
+
+    #[test]
     fn a_call_prints_as_its_line() {
         for line in [
             "U 0 1000 50000 7 2",

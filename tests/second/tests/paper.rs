@@ -1,5 +1,6 @@
-//! The data of document 01: its worked script, its entries on both sides of
-//! the line with the reasons of request Q-2, and the mistakes that look right.
+//! The data of document 01: its worked script with the answer of request Q-3,
+//! its entries on both sides of the line with the reasons of request Q-2, and
+//! the mistakes that look right. Then the stuck pages of request Q-3.
 
 use second::script::{parse, run};
 use second::{Answer, Entry, LeafWord, Reason};
@@ -19,7 +20,7 @@ U ok none ; V ok opened ; W ok
 U ok none ; V ok opened ; W ok
 U ok none ; F ok ; M ok
 R ok 2a ; R no 6 ; W no 10
-X no 17 ; D ok ; X ok
+X no 17 ; D ok ; X ok 7
 W ok ; R ok 2a ; C ok 1
 U ok closed 7 50000 ; R no 9
 ";
@@ -175,7 +176,7 @@ fn a_leaf_serves_one_fixed_page() {
     let mut machine = Machine::after(&[&FIXED[..], &EQUAL].concat());
     machine.check("F 0 2000 3000", refused(15));
     machine.check("R 7 50000 1000 2 2 3", Answer::Word(0x2a));
-    machine.check("X 0 1000", Answer::Done);
+    machine.check("X 0 1000", Answer::Unfixed { asid: 7 });
     machine.check("U 0 3000 0 0 3", Answer::None);
     machine.check("F 0 2000 3000", Answer::Done);
 }
@@ -209,4 +210,46 @@ fn a_change_of_guest_zeroes_the_frame() {
     let mut machine = Machine::after(&private);
     machine.check("U 0 1000 51000 7 2", closed);
     assert_eq!(machine.memory[512 + 3], 0x2a);
+}
+
+#[test]
+fn a_page_whose_owner_left_goes_to_the_guest_in_it() {
+    let left = ["M 0 1000 2000", "D 0 1000 4000 7"];
+    let mut machine = Machine::after(&[&FIXED[..], &EQUAL, &left].concat());
+    machine.check("X 0 1000", Answer::Unfixed { asid: 9 });
+    assert_eq!(machine.table[2..4], [0x60009, 0x60000]);
+    // Each guest has its own page now.
+    machine.check("R 9 60000 1000 2 2 3", Answer::Word(0x2a));
+    machine.check("R 7 50000 1000 2 2 3", refused(7));
+    machine.check("W 9 60000 1000 2 2 3 2b", Answer::Done);
+    machine.check("R 9 60000 1000 2 2 3", Answer::Word(0x2b));
+    machine.check("R 7 50000 4000 2 2 3", Answer::Word(0x2a));
+    machine.check("C 7", Answer::Count(1));
+    machine.check("C 9", Answer::Count(1));
+    // Both frames can be given away.
+    let closed = Answer::Closed {
+        asid: 9,
+        gpa: 0x60000,
+    };
+    machine.check("U 0 1000 0 0 0", closed);
+    machine.check("U 0 3000 70000 b 1", Answer::None);
+}
+
+#[test]
+fn a_page_that_all_have_left_is_freed() {
+    let left = ["M 0 1000 2000", "D 0 1000 4000 7", "D 0 1000 5000 9"];
+    let mut machine = Machine::after(&[&FIXED[..], &EQUAL, &left].concat());
+    machine.check("X 0 1000", Answer::Unfixed { asid: 0 });
+    for frame in [1, 3] {
+        assert_eq!(machine.table[2 * frame..2 * frame + 2], [0, 0]);
+        assert_eq!(machine.memory[512 * frame..512 * (frame + 1)], [0; 512]);
+    }
+    machine.check("R 7 50000 1000 2 2 3", refused(6));
+    machine.check("R 7 50000 4000 2 2 3", Answer::Word(0x2a));
+    machine.check("R 9 60000 5000 2 2 3", Answer::Word(0x2a));
+    machine.check("C 7", Answer::Count(1));
+    machine.check("C 9", Answer::Count(1));
+    machine.check("X 0 1000", refused(6));
+    machine.check("U 0 1000 0 0 3", Answer::None);
+    machine.check("U 0 3000 70000 b 1", Answer::None);
 }

@@ -5,7 +5,7 @@ use second::{Answer, Call};
 
 use crate::monitors::{entries, entry, leaf_word, words, Planted};
 
-pub const FAULTS: [Planted; 16] = [
+pub const FAULTS: [Planted; 21] = [
     Planted {
         name: "PMERGE leaves the merged entry as it was",
         make: |call, table, memory| {
@@ -48,9 +48,71 @@ pub const FAULTS: [Planted; 16] = [
         make: |call, table, memory| {
             let (old_table, old_memory) = (table.to_vec(), memory.to_vec());
             let answer = call.make(table, memory);
-            if let (Answer::Done, Call::Punfix { hpa, .. }) = (answer, *call) {
+            if let (Answer::Unfixed { .. }, Call::Punfix { hpa, .. }) = (answer, *call) {
                 let leaf = words(entry(&old_table, hpa).address);
                 memory[leaf.clone()].copy_from_slice(&old_memory[leaf]);
+            }
+            answer
+        },
+    },
+    Planted {
+        name: "PUNFIX keeps the old owner",
+        make: |call, table, memory| {
+            let before = table.to_vec();
+            let answer = call.make(table, memory);
+            if let (Answer::Unfixed { asid: 1.. }, Call::Punfix { hpa, .. }) = (answer, *call) {
+                let kept = Entry {
+                    asid: entry(&before, hpa).asid,
+                    ..entry(table, hpa)
+                };
+                kept.put(table, frame_of(hpa));
+            }
+            answer
+        },
+    },
+    Planted {
+        name: "PUNFIX answers the old owner",
+        make: |call, table, memory| {
+            let before = table.to_vec();
+            match (call.make(table, memory), *call) {
+                (Answer::Unfixed { asid: 1.. }, Call::Punfix { hpa, .. }) => Answer::Unfixed {
+                    asid: entry(&before, hpa).asid,
+                },
+                (answer, _) => answer,
+            }
+        },
+    },
+    Planted {
+        name: "PUNFIX zeroes the page that becomes another guest's",
+        make: |call, table, memory| {
+            let before = table.to_vec();
+            let answer = call.make(table, memory);
+            if let (Answer::Unfixed { asid }, Call::Punfix { hpa, .. }) = (answer, *call) {
+                if entry(&before, hpa).asid != asid {
+                    memory[words(hpa)].fill(0);
+                }
+            }
+            answer
+        },
+    },
+    Planted {
+        name: "PUNFIX does not zero the page that nobody is left in",
+        make: |call, table, memory| {
+            let before = memory.to_vec();
+            let answer = call.make(table, memory);
+            if let (Answer::Unfixed { asid: 0 }, Call::Punfix { hpa, .. }) = (answer, *call) {
+                memory[words(hpa)].copy_from_slice(&before[words(hpa)]);
+            }
+            answer
+        },
+    },
+    Planted {
+        name: "PUNFIX leaves the entry of the page that nobody is left in",
+        make: |call, table, memory| {
+            let before = table.to_vec();
+            let answer = call.make(table, memory);
+            if let (Answer::Unfixed { asid: 0 }, Call::Punfix { hpa, .. }) = (answer, *call) {
+                entry(&before, hpa).put(table, frame_of(hpa));
             }
             answer
         },

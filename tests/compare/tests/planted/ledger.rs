@@ -12,7 +12,7 @@ use second::{Answer, Call};
 use crate::changes;
 use crate::monitors::{entry, leaf_word, refused, words, Planted};
 use crate::pages::{self, Fault, PlantedPage};
-use crate::reasons;
+use crate::{reasons, refusals};
 
 /// What is found in as many requests as histories have in a run.
 fn found(fault: &dyn Monitor) -> Option<Box<Report>> {
@@ -148,10 +148,29 @@ fn places_that_are_lost_or_made_up() {
         "RMPUPDATE keeps VALIDATED where no field is new",
         "RMPUPDATE tells the new address as the closed one",
         "PVALIDATE answers opened always",
+        "PUNFIX keeps the old owner",
     ] {
         let fault = changes::FAULTS.iter().find(|fault| fault.name == name);
         is_found(fault.expect("a fault of this name"), "openings");
     }
+}
+
+/// The guest that a page is unfixed to finds its own words there.
+#[test]
+fn words_that_are_lost_with_the_owner() {
+    let name = "PUNFIX zeroes the page that becomes another guest's";
+    let fault = changes::FAULTS.iter().find(|fault| fault.name == name);
+    // what is merged, unmerged and unfixed before it shows can't always be made as short as elsewhere
+    let report = found(fault.expect("a fault of this name")).expect("the fault is found");
+    let claim = report.finding.claim.as_deref().unwrap_or_default();
+    assert!(claim.contains(" was "), "{report}");
+}
+
+#[test]
+fn a_guest_that_is_left_out_where_a_page_is_unfixed() {
+    let name = "PUNFIX gives 17 from three present words on";
+    let fault = refusals::FAULTS.iter().find(|fault| fault.name == name);
+    is_found(fault.expect("a fault of this name"), "openings");
 }
 
 #[test]

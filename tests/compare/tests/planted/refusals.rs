@@ -1,7 +1,8 @@
 //! Faults in what is refused, and with which number.
 
 use common::layout::{
-    self, frame_of, gpa_of, memory_words, table_words, word_at, Entry, ADDRESS_END, FRAME_BYTES,
+    self, frame_of, gpa_of, is_present, memory_words, present, table_words, word_at, Entry,
+    ADDRESS_END, FRAME_BYTES,
 };
 use second::{Answer, Call};
 
@@ -12,7 +13,24 @@ fn is_fixed_page(entry: Entry) -> bool {
     entry == Entry::fixed(entry.asid, entry.address)
 }
 
-pub const FAULTS: [Planted; 26] = [
+/// Where the present words of a fixed page's leaf are in memory, misshapen ones too.
+fn present_words(table: &[u64], memory: &[u64], hpa: u64) -> Vec<usize> {
+    let leaf = words(entry(table, hpa).address);
+    leaf.filter(|&word| is_present(memory[word])).collect()
+}
+
+/// Whether a present word of a leaf has no address.
+fn is_misshapen(word: u64) -> bool {
+    let gpa = gpa_of(word);
+    gpa >= ADDRESS_END || !gpa.is_multiple_of(FRAME_BYTES)
+}
+
+/// Whether the owner of a fixed page has no place in it.
+fn is_left_by_owner(table: &[u64], memory: &[u64], hpa: u64) -> bool {
+    !is_present(memory[leaf_word(table, hpa, entry(table, hpa).asid)])
+}
+
+pub const FAULTS: [Planted; 31] = [
     Planted {
         name: "PMERGE overwrites a leaf word (14 is skipped)",
         make: |call, table, memory| match (call.make(table, memory), *call) {
@@ -185,19 +203,95 @@ pub const FAULTS: [Planted; 26] = [
         name: "PUNFIX passes over misshapen words (17)",
         make: |call, table, memory| match (call.make(table, memory), *call) {
             (Answer::Refused { number: 17, .. }, Call::Punfix { hpa, .. }) => {
-                let leaf = words(entry(table, hpa).address);
+                let found = present_words(table, memory, hpa);
                 accepted(call, table, memory, |_, memory| {
-                    let is_address =
-                        |gpa: u64| gpa < ADDRESS_END && gpa.is_multiple_of(FRAME_BYTES);
-                    let misshapen = |word: &&mut u64| !is_address(gpa_of(**word));
-                    memory[leaf]
-                        .iter_mut()
-                        .filter(misshapen)
-                        .for_each(|word| *word = 0);
+                    for word in found {
+                        if is_misshapen(memory[word]) {
+                            memory[word] = 0;
+                        }
+                    }
                 })
                 .unwrap_or(refused(17))
             }
             (answer, _) => answer,
+        },
+    },
+    Planted {
+        name: "PUNFIX checks 12 for a misshapen word before 17",
+        make: |call, table, memory| match (call.make(table, memory), *call) {
+            (Answer::Refused { number: 17, .. }, Call::Punfix { hpa, .. }) => {
+                let mut found = present_words(table, memory, hpa).into_iter();
+                match found.any(|word| is_misshapen(memory[word])) {
+                    true => refused(12),
+                    false => refused(17),
+                }
+            }
+            (answer, _) => answer,
+        },
+    },
+    Planted {
+        name: "PUNFIX gives 17 from three present words on",
+        make: |call, table, memory| match (call.make(table, memory), *call) {
+            (Answer::Refused { number: 17, .. }, Call::Punfix { hpa, .. }) => {
+                match present_words(table, memory, hpa)[..] {
+                    [_, two] => accepted(call, table, memory, |_, memory| memory[two] = 0)
+                        .unwrap_or(refused(12)),
+                    _ => refused(17),
+                }
+            }
+            (answer, _) => answer,
+        },
+    },
+    Planted {
+        name: "PUNFIX takes index 0 for a guest (12 is skipped)",
+        make: |call, table, memory| match (call.make(table, memory), *call) {
+            (Answer::Refused { number: 12, .. }, Call::Punfix { hpa, .. }) => {
+                let (zero, one) = (leaf_word(table, hpa, 0), leaf_word(table, hpa, 1));
+                let moved = accepted(call, table, memory, |_, memory| memory.swap(zero, one));
+                if moved.is_none() {
+                    return refused(12);
+                }
+                let owned = Entry {
+                    asid: 0,
+                    ..entry(table, hpa)
+                };
+                owned.put(table, frame_of(hpa));
+                Answer::Unfixed { asid: 0 }
+            }
+            (answer, _) => answer,
+        },
+    },
+    Planted {
+        name: "PUNFIX takes a misshapen word for present (12 is skipped)",
+        make: |call, table, memory| match (call.make(table, memory), *call) {
+            (Answer::Refused { number: 12, .. }, Call::Punfix { hpa, .. }) => {
+                let found = present_words(table, memory, hpa);
+                accepted(call, table, memory, |_, memory| {
+                    for word in found {
+                        let gpa = gpa_of(memory[word]) % ADDRESS_END;
+                        memory[word] = present(gpa - gpa % FRAME_BYTES);
+                    }
+                })
+                .unwrap_or(refused(12))
+            }
+            (answer, _) => answer,
+        },
+    },
+    Planted {
+        name: "PUNFIX gives 13 where the owner has left",
+        make: |call, table, memory| {
+            let before = (table.to_vec(), memory.to_vec());
+            match (call.make(table, memory), *call) {
+                (
+                    Answer::Unfixed { .. } | Answer::Refused { number: 17, .. },
+                    Call::Punfix { hpa, .. },
+                ) if is_left_by_owner(&before.0, &before.1, hpa) => {
+                    table.copy_from_slice(&before.0);
+                    memory.copy_from_slice(&before.1);
+                    refused(13)
+                }
+                (answer, _) => answer,
+            }
         },
     },
     Planted {

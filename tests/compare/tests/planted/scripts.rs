@@ -28,7 +28,7 @@ fn replaced(text: &[u8], from: &str, to: &str) -> Vec<u8> {
     String::from_utf8_lossy(text).replace(from, to).into_bytes()
 }
 
-const FAULTS: [(&str, Program); 12] = [
+const FAULTS: [(&str, Program); 14] = [
     ("an empty line prints nothing", |text| {
         let kept = text
             .split_inclusive(|&byte| byte == b'\n')
@@ -97,6 +97,12 @@ const FAULTS: [(&str, Program); 12] = [
     ("refusals are printed in hex", |text| {
         replaced(&second(text), "no 10\n", "no a\n")
     }),
+    ("a new owner is printed in decimal", |text| {
+        replaced(&second(text), "X ok 1ff\n", "X ok 511\n")
+    }),
+    ("a new owner is printed only where there is one", |text| {
+        replaced(&second(text), "X ok 0\n", "X ok\n")
+    }),
 ];
 
 #[test]
@@ -105,7 +111,7 @@ fn faults_in_script_programs_are_found() {
         let report = found(program).unwrap_or_else(|| panic!("not found: {name}"));
         let lines = report.text.split(|&byte| byte == b'\n').count();
         let long = name.contains("1,024");
-        let small = lines <= 8 && (long || report.text.len() <= 120);
+        let small = lines <= 10 && (long || report.text.len() <= 200);
         assert!(small, "not small: {name}\n{report}");
         assert_ne!(report.printed[0], report.printed[1], "{name}\n{report}");
     }

@@ -7,7 +7,7 @@ use second::{page_check, Answer, Call};
 
 use crate::monitors::{bad, refused, Planted};
 use crate::pages::{Fault, PlantedPage};
-use crate::reasons;
+use crate::{reasons, refusals};
 
 /// A run in which this monitor stands on both sides, so that there is no difference.
 fn run_of(monitor: &dyn Monitor) -> Run {
@@ -18,7 +18,7 @@ fn run_of(monitor: &dyn Monitor) -> Run {
 fn a_run_without_faults_passes() {
     let run = run([&second, &second], [&Proved, &Second], 3, 100_000);
     assert!(run.passed, "{}", run.printed);
-    let last = "100000 calls, seed 3, 0 differences, 108 cells and 96 of reasons reached\n";
+    let last = "100000 calls, seed 3, 0 differences, 107 cells and 96 of reasons reached\n";
     assert!(run.printed.ends_with(last), "{}", run.printed);
 }
 
@@ -80,6 +80,21 @@ fn a_cell_that_must_be_empty_fails() {
     );
     let cell = "met, and can't be: WRITE refused with 13";
     assert!(run.printed.contains(cell), "{}", run.printed);
+}
+
+/// The rule of PUNFIX that left pages stuck, in both monitors.
+#[test]
+fn an_unfixing_that_is_never_met_fails() {
+    let name = "PUNFIX gives 13 where the owner has left";
+    let fault = refusals::FAULTS.iter().find(|fault| fault.name == name);
+    let run = run_of(fault.expect("a fault of this name"));
+    for line in [
+        "met, and can't be: PUNFIX refused with 13\n",
+        "never met in a history: unfixes to another guest\n",
+        "never met in a history: unfixes to nobody\n",
+    ] {
+        assert!(!run.passed && run.printed.contains(line), "{}", run.printed);
+    }
 }
 
 #[test]

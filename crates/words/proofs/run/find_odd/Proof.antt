@@ -2,7 +2,7 @@
 -- Assumes nothing.
 use mathlib.Core.Path.{_≡_, sym, _∙_}
 use mathlib.Core.Logic.{⊎-elim}
-use Prim.Native.Nat.{_*_, _-_, _/_, _≤_}
+use Prim.Native.Nat.{_-_, _≤_}
 use native.Mathlib.Omega.{arith}
 use lib.ListN.{length}
 use borrow.Author.Needs.{needs}
@@ -21,14 +21,11 @@ abbrev μ-loop : tie.MeasureT-loop
 seen-in-rows-requires : tie.Need-seen-in-rows-requires Inv-loop μ-loop
 seen-in-rows-requires c κs = search needs
 
-mul-i : tie.Need-mul-i Inv-loop μ-loop
-mul-i c = search needs
-
 loop-holds : tie.Need-loop-holds Inv-loop μ-loop
 loop-holds c =
     let seen = c .seen-in-rows .ensures in
     let run = c .before .before .args .run .now in
-    (omega arith, seen .0, omega (arith, seen .0, odd-most run (length run / 4 * 4)), seen .1)
+    (seen .0, seen .1 .0, omega (arith, seen .1 .0, odd-most run (c .seen-in-rows .result .next)), seen .1 .1)
 
 mul-if1 : tie.Need-mul-if1 Inv-loop μ-loop
 mul-if1 c = search needs
@@ -82,7 +79,6 @@ find-odd-spec =
     Inv-loop
     μ-loop
     seen-in-rows-requires
-    mul-i
     loop-holds
     mul-if1
     shared-slice-read-if1
