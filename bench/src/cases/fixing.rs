@@ -40,17 +40,22 @@ fn fixed(world: World) -> Scene<Pfix, ENTRY_WORDS, 0> {
 
 /// PUNFIX of a page that only its owner is in.
 pub fn owner_left(n: usize) -> Scene<Punfix, 3, 1> {
-    unfixed(n, |page| (guest(page), present(gpa(page))))
+    unfixed(n, |page, owner| (owner, present(gpa(page))))
 }
 
 /// PUNFIX of a page that only another guest is in.
 pub fn another_left(n: usize) -> Scene<Punfix, 3, 1> {
-    unfixed(n, |page| (guest(page + 1), present(gpa(page))))
+    unfixed(n, |page, owner| (owner + 1, present(gpa(page))))
 }
 
 /// PUNFIX of a page that nobody is in.
 pub fn nobody_left(n: usize) -> Scene<Punfix, 3, 1> {
-    unfixed(n, |page| (guest(page), 0))
+    unfixed(n, |_, owner| (owner, 0))
+}
+
+/// The owners of the pages for PUNFIX: their words are spread over the leaf, and over the places in a vector.
+fn owner(slot: usize) -> u64 {
+    60 + 131 * slot as u64
 }
 
 /// The frames of a fixed page and of its leaf.
@@ -67,12 +72,12 @@ fn unfix(page: usize) -> Punfix {
 
 /// PUNFIX of a page in whose leaf this guest's word is this, and no other is present. The page's entry, word 0 of the leaf's and the
 /// guest's word are put back; the page's zeros were zeros before.
-fn unfixed(n: usize, left: fn(usize) -> (u64, u64)) -> Scene<Punfix, 3, 1> {
+fn unfixed(n: usize, left: fn(usize, u64) -> (u64, u64)) -> Scene<Punfix, 3, 1> {
     let mut world = World::new(n);
     let turns = (0..FIXED).map(|slot| {
         let (page, leaf) = frames(slot);
-        let (asid, word) = left(page);
-        let fixed = Entry::fixed(guest(page), address(leaf));
+        let (asid, word) = left(page, owner(slot));
+        let fixed = Entry::fixed(owner(slot), address(leaf));
         world.put(page, fixed);
         world.put(leaf, Entry::LEAF);
         world.set(leaf, asid as usize, word);

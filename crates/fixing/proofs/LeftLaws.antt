@@ -11,8 +11,8 @@ use lib.ListN.{length}
 use borrow.Author.Tests.{le-leb, ne-eqb}
 use Rattle.words.specs.Choice.{pick}
 use Rattle.words.specs.Run.{odd, lastOdd, oddOf}
-use Rattle.words.specs.declared.run.Odd.{Odd}
-use Rattle.words.specs.declared.run.Odd.the-variants.{None, One, Several}
+use Rattle.words.specs.declared.odd.Odd.{Odd}
+use Rattle.words.specs.declared.odd.Odd.the-variants.{None, One, Several}
 use Rattle.words.proofs.ChoiceLaws.{lt-or-le, same-or-not}
 use Rattle.words.proofs.OddLaws.{odd-of-none, last-of-none}
 use Rattle.frames.specs.Frame.{frameCount, wordIn, frameIn}

@@ -28,8 +28,8 @@ use entries::leaf::leaf_word;
 use frames::frame;
 use gates::unfix_needs_met;
 use rmp::table;
-use words::run;
-use words::run::Odd;
+use words::odd::Odd;
+use words::odd::find_odd;
 
 // Who is left in a fixed page, with the page's entry: one guest, with its number and its address, or nobody.
 pub enum Left {
@@ -96,7 +96,7 @@ fn left_in_leaf(memory: &[u64], old: Entry) -> Left
         ≡ remaining (state table (now (memory .entry))) (leafFrame old) (one old) (none old)) ⌝ }
 {
     let leaf = frame_of(old.address);
-    match run::find_odd(frame::part(memory, leaf)) {
+    match find_odd(frame::part(memory, leaf)) {
         Odd::None => Left::Nobody(old),
         Odd::One(index) => of_guest(
             old,
