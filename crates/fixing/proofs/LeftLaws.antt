@@ -10,11 +10,11 @@ use lib.Dec.{eqb}
 use lib.ListN.{length}
 use borrow.Author.Tests.{le-leb, ne-eqb}
 use Rattle.words.specs.Choice.{pick}
-use Rattle.words.specs.Run.{odd, lastOdd, oddOf}
-use Rattle.words.specs.declared.odd.Odd.{Odd}
-use Rattle.words.specs.declared.odd.Odd.the-variants.{None, One, Several}
+use Rattle.parity.specs.Odd.{odd, lastOdd, oddOf}
+use Rattle.parity.specs.declared.Odd.{Odd}
+use Rattle.parity.specs.declared.Odd.the-variants.{None, One, Several}
 use Rattle.words.proofs.ChoiceLaws.{lt-or-le, same-or-not}
-use Rattle.words.proofs.OddLaws.{odd-of-none, last-of-none}
+use Rattle.parity.proofs.OddLaws.{odd-of-none, last-of-none}
 use Rattle.frames.specs.Frame.{frameCount, wordIn, frameIn}
 use Rattle.frames.proofs.FrameLaws.{part-outside, frame-long}
 use Rattle.entries.specs.Leaf.{leafWord}

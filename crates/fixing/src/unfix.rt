@@ -27,9 +27,9 @@ use entries::leaf::LeafWord;
 use entries::leaf::leaf_word;
 use frames::frame;
 use gates::unfix_needs_met;
+use parity::Odd;
+use parity::find_odd;
 use rmp::table;
-use words::odd::Odd;
-use words::odd::find_odd;
 
 // Who is left in a fixed page, with the page's entry: one guest, with its number and its address, or nobody.
 pub enum Left {

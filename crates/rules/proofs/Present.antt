@@ -9,9 +9,9 @@ use native.Mathlib.Omega.{arith}
 use lib.ListN.{getD}
 use borrow.Author.Tests.{eq-eqb, ne-eqb}
 use Rattle.words.specs.Choice.{pick}
-use Rattle.words.specs.Run.{odd}
+use Rattle.parity.specs.Odd.{odd}
 use Rattle.words.proofs.ChoiceLaws.{same-or-not, pick-true, pick-false, pick-either}
-use Rattle.words.proofs.OddLaws.{none-odd, last-is-odd, others-even}
+use Rattle.parity.proofs.OddLaws.{none-odd, last-is-odd, others-even}
 use Rattle.entries.specs.Entry.{isAddress}
 use Rattle.entries.specs.Leaf.{leafWord}
 use Rattle.entries.specs.declared.leaf.LeafWord.the-variants.{Absent, Present, Misshapen}

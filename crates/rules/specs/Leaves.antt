@@ -4,7 +4,7 @@ use mathlib.Core.Bool.{Bool, false}
 use Prim.Native.Nat.{ℕ, zero, suc}
 use lib.Dec.{leb, eqb}
 use Rattle.words.specs.Choice.{pick, _and_, _or_}
-use Rattle.words.specs.Run.{odd, lastOdd}
+use Rattle.parity.specs.Odd.{odd, lastOdd}
 use Rattle.entries.specs.Entry.{LEAF, frameOf, isGuest}
 use Rattle.entries.specs.Leaf.{leafWord}
 use Rattle.entries.specs.declared.entry.Entry.{Entry}

@@ -1,5 +1,3 @@
 -- The laws that the proofs of `words`, and of the crates above it, cite.
 pub mod ChoiceLaws
-pub mod ColumnLaws
-pub mod OddLaws
 pub mod RunLaws

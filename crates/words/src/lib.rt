@@ -1,3 +1,2 @@
 // Runs of 64-bit words, of any length.
-pub mod odd;
 pub mod run;

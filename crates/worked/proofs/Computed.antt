@@ -1,7 +1,8 @@
 -- A call as it computes: to unfold `computed` is to unfold every definition of the rules, down to the words. Only examples do so.
 -- Assumes nothing.
 use Rattle.words.specs.Choice.{pick, _and_, _or_}
-use Rattle.words.specs.Run.{differing, odd, lastOdd}
+use Rattle.words.specs.Run.{differing}
+use Rattle.parity.specs.Odd.{odd, lastOdd}
 use Rattle.frames.specs.Frame.{frameCount, isFramed, wordIn, frameIn, zeros, putWord, putFrame, differingIn}
 use Rattle.entries.specs.Entry.{isAddress, frameOf, isParty, isGuest, isOwned, isUnowned, entry, zeroEntry, asidFits, flagsFit}
 use Rattle.entries.specs.Entry.{addressFits, rule, byRules, fields, decoded, bit, encoded, toValidated, toFixed, toMoved}

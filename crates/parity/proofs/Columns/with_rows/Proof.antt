@@ -1,9 +1,9 @@
--- `words::odd::Columns::with_rows` meets its contract: each row adds its bits.
+-- `parity::Columns::with_rows` meets its contract: each row adds its bits.
 -- Assumes nothing.
 use native.Mathlib.Omega.{arith}
 use borrow.Author.Needs.{needs}
-use Rattle.words.proofs.odd.Columns.with_rows.Statement.{statement}
-use Rattle.words.proofs.odd.Columns.with_rows.Tie as tie
+use Rattle.parity.proofs.Columns.with_rows.Statement.{statement}
+use Rattle.parity.proofs.Columns.with_rows.Tie as tie
 
 with-row-requires : tie.Need-with-row-requires
 with-row-requires c κs = search needs

@@ -1,4 +1,4 @@
--- `words::odd::find_odd` meets its contract: the rows, and the words behind them up to i, tell of the first i words.
+-- `parity::find_odd` meets its contract: the rows, and the words behind them up to i, tell of the first i words.
 -- Assumes nothing.
 use mathlib.Core.Path.{_≡_, sym, _∙_}
 use mathlib.Core.Logic.{⊎-elim}
@@ -6,10 +6,10 @@ use Prim.Native.Nat.{_-_, _≤_}
 use native.Mathlib.Omega.{arith}
 use lib.ListN.{length}
 use borrow.Author.Needs.{needs}
-use Rattle.words.specs.Run.{odd, lastOdd}
-use Rattle.words.proofs.OddLaws.{odd-next, odd-most, last-here, last-stays, place-of-one}
-use Rattle.words.proofs.odd.find_odd.Statement.{statement}
-use Rattle.words.proofs.odd.find_odd.Tie as tie
+use Rattle.parity.specs.Odd.{odd, lastOdd}
+use Rattle.parity.proofs.OddLaws.{odd-next, odd-most, last-here, last-stays, place-of-one}
+use Rattle.parity.proofs.find_odd.Statement.{statement}
+use Rattle.parity.proofs.find_odd.Tie as tie
 
 abbrev Inv-loop : tie.InvT-loop
 Inv-loop run count₀ place₀ i₀ count place i =

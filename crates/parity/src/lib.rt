@@ -3,9 +3,9 @@ ghost use mathlib.Core.Path.{_≡_};
 ghost use Prim.Native.Nat.{_+_, _*_, _%_, _^_, _<_, _≤_};
 ghost use lib.Dec.{eqb};
 ghost use lib.ListN.{length};
 ghost use Rattle.words.specs.Choice.{pick};
-ghost use Rattle.words.specs.Run.{bitAt, inColumn, odd, lastOdd, oddOf};
-ghost use Rattle.words.specs.declared.odd.Odd.the-variants as variants;
+ghost use Rattle.parity.specs.Odd.{bitAt, inColumn, odd, lastOdd, oddOf};
+ghost use Rattle.parity.specs.declared.Odd.the-variants as variants;
 use std::num::wrapping_add_u32;
 
 // None, one, at its place, or several.

@@ -1,4 +1,4 @@
--- `words::odd::seen_in_rows` meets its contract: after i turns the columns are those of the first i turns, and where one word is odd its
+-- `parity::seen_in_rows` meets its contract: after i turns the columns are those of the first i turns, and where one word is odd its
 -- place is found in its column.
 -- Assumes nothing.
 use mathlib.Core.Path.{_≡_, sym, _∙_}
@@ -7,10 +7,10 @@ use Prim.Native.Nat.{_+_, _*_, _-_, _<_, _≤_}
 use native.Mathlib.Omega.{arith}
 use lib.ListN.{length}
 use borrow.Author.Needs.{needs}
-use Rattle.words.specs.Run.{lastOdd}
-use Rattle.words.proofs.ColumnLaws.{Turns, no-turns, turned, Found, found, place-found}
-use Rattle.words.proofs.odd.seen_in_rows.Statement.{statement}
-use Rattle.words.proofs.odd.seen_in_rows.Tie as tie
+use Rattle.parity.specs.Odd.{lastOdd}
+use Rattle.parity.proofs.ColumnLaws.{Turns, no-turns, turned, Found, found, place-found}
+use Rattle.parity.proofs.seen_in_rows.Statement.{statement}
+use Rattle.parity.proofs.seen_in_rows.Tie as tie
 
 abbrev Inv-loop : tie.InvT-loop
 Inv-loop run turns counts₀ sums₀ i₀ counts sums i =
@@ -109,7 +109,7 @@ returns c =
     let turns = one .before .before .before .before .before .before .before .if1 .turns in
     let all : l .i ≡ turns = omega arith in
     let place = place-found f turns _ _ all (at-total .total2 .ensures) (c .before .column .ensures) in
-    (l .inv .2, (rw (← all) (sym (f .one-odd)), λ same. rw (← all) (c .place-in-column .ensures ∙ place)))
+    (l .inv .2, (rw (← all) (sym (f .one-odd)), λ same. rw (← all, c .place-in-column .ensures) place))
 
 cast-t25 : tie.Need-cast-t25 Inv-loop μ-loop
 cast-t25 c = search needs

@@ -9,10 +9,10 @@ use native.Mathlib.Omega.{arith}
 use lib.Dec.{eqb}
 use lib.ListN.{length, getD}
 use borrow.Author.Tests.{eq-eqb, ne-eqb}
 use Rattle.words.specs.Choice.{pick}
-use Rattle.words.specs.Run.{odd, lastOdd, oddOf}
-use Rattle.words.specs.declared.odd.Odd.the-variants.{None, One, Several}
+use Rattle.parity.specs.Odd.{odd, lastOdd, oddOf}
+use Rattle.parity.specs.declared.Odd.the-variants.{None, One, Several}
 use Rattle.words.proofs.ChoiceLaws.{same-or-not, pick-true, pick-false}
 
 -- none of no words is odd, and the next word adds its bit 0
 pub odd-none : (words : List ℕ) → odd words 0 ≡ 0

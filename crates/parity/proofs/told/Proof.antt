@@ -1,9 +1,9 @@
--- `words::odd::told` meets its contract: each branch is one of the definition's.
+-- `parity::told` meets its contract: each branch is one of the definition's.
 -- Assumes nothing.
 use borrow.Author.Tests.{eq-eqb, ne-eqb}
 use Rattle.words.specs.Choice.{pick}
-use Rattle.words.proofs.odd.told.Statement.{statement}
-use Rattle.words.proofs.odd.told.Tie as tie
+use Rattle.parity.proofs.told.Statement.{statement}
+use Rattle.parity.proofs.told.Tie as tie
 
 returns : tie.Need-returns
 unfolding pick

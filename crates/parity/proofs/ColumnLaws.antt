@@ -5,9 +5,9 @@ use mathlib.Core.List.{List}
 use mathlib.Core.Logic.{_≢_, _⊎_, ⊎-elim, inl, inr}
 use Prim.Native.Nat.{ℕ, _+_, _-_, _*_, _%_, _^_, _<_, _≤_}
 use native.Mathlib.Omega.{arith}
-use Rattle.words.specs.Run.{bitAt, inColumn, odd, lastOdd}
+use Rattle.parity.specs.Odd.{bitAt, inColumn, odd, lastOdd}
 use Rattle.words.proofs.ChoiceLaws.{same-or-not}
-use Rattle.words.proofs.OddLaws.{odd-next, last-next, last-is-odd, others-even}
+use Rattle.parity.proofs.OddLaws.{odd-next, last-next, last-is-odd, others-even}
 
 module _ (words : List ℕ) where
   -- the bits 0 of a row together, and the place in it of an odd word, where it has one
