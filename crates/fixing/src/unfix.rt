@@ -1,4 +1,4 @@
-// PUNFIX: a page gives its leaf back, to the one guest that is left in it or to nobody.
+// PUNFIX: a page gives its leaf back, and becomes the page of the one guest that is left in it, or nobody's.
 ghost use mathlib.Core.Path.{_≡_};
 ghost use mathlib.Core.List.{List};
 ghost use Prim.Native.Nat.{ℕ};

@@ -5,7 +5,8 @@ use mathlib.Core.List.{List}
 use mathlib.Core.Logic.{_≢_, _⊎_, ⊎-elim, inl, inr}
 use Prim.Native.Nat.{ℕ, _+_, _-_, _*_, _%_, _^_, _<_, _≤_}
 use native.Mathlib.Omega.{arith}
-use Rattle.parity.specs.Odd.{bitAt, inColumn, odd, lastOdd}
+use Rattle.parity.specs.Columns.{inColumn}
+use Rattle.parity.specs.Odd.{bitAt, odd, lastOdd}
 use Rattle.words.proofs.ChoiceLaws.{same-or-not}
 use Rattle.parity.proofs.OddLaws.{odd-next, last-next, last-is-odd, others-even}
 

@@ -11,10 +11,6 @@ use Rattle.parity.specs.declared.Odd.the-variants.{None, One, Several}
 abbrev pub bitAt : List ℕ → ℕ → ℕ
 bitAt words n = getD words n 0 % 2
 
--- the bits 0 of a column of four rows of four words, which begin at n
-abbrev pub inColumn : List ℕ → ℕ → ℕ → ℕ
-inColumn words n k = bitAt words (n + k) + bitAt words (n + 4 + k) + bitAt words (n + 8 + k) + bitAt words (n + 12 + k)
-
 -- how many of the first n words of a run are odd
 unfoldable pub odd : List ℕ → ℕ → ℕ
 odd words zero = 0

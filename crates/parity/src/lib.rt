@@ -4,7 +4,8 @@ ghost use Prim.Native.Nat.{_+_, _*_, _%_, _^_, _<_, _≤_};
 ghost use lib.Dec.{eqb};
 ghost use lib.ListN.{length};
 ghost use Rattle.words.specs.Choice.{pick};
-ghost use Rattle.parity.specs.Odd.{bitAt, inColumn, odd, lastOdd, oddOf};
+ghost use Rattle.parity.specs.Columns.{inColumn};
+ghost use Rattle.parity.specs.Odd.{bitAt, odd, lastOdd, oddOf};
 ghost use Rattle.parity.specs.declared.Odd.the-variants as variants;
 use std::num::wrapping_add_u32;
 
@@ -15,7 +16,7 @@ pub enum Odd {
     Several,
 }
 
-// What the words before `next` tell: how many are odd and, where one is, its place.
+// What the words before `next` tell: how many are odd, and the place of the one that is, where one is.
 struct Seen {
     count: u64,
     place: usize,
@@ -55,9 +56,9 @@ fn told(count: u64, place: usize) -> Odd
 // So many turns at most are made, so that no count passes 32 bits: counts of 64 would take twice the instructions.
 const MOST_TURNS: usize = 0x1000000;
 
-// The words are in rows of four, and a turn takes four rows. Each column has its count of odd words, and the sum of this count over the
-// turns: where one word is odd, the sums are how many turns there are from it on. So there is no branch and no multiplication, and a row
-// is one vector.
+// The words lie in rows of four, and a turn takes four rows. Each column has its count of odd words, and the sum of this count over the
+// turns: where one word is odd, the sums together are how many turns there are from it on. So there is no branch and no multiplication,
+// and a row of counts is one vector.
 fn seen_in_rows(run: &[u64]) -> Seen
     ensures inside { λ r. ⌜ r .next ≤ length (now (run .entry)) ⌝ }
     ensures counts { λ r. ⌜ r .count ≡ odd (now (run .entry)) (r .next) ⌝ }
@@ -176,7 +177,7 @@ impl Columns {
     }
 }
 
-// The place of the odd word of a turn, in the column that begins at this place: the first word that is no other.
+// The place of the one odd word among four of a column, of which this is the place of the first.
 fn place_in_column(run: &[u64], first: usize) -> usize
     requires { ⌜ first + 12 < length (now run) ⌝ }
     ensures { λ r. ⌜ r ≡ first + 4 * bitAt (now (run .entry)) (first + 4) + 8 * bitAt (now (run .entry)) (first + 8)

@@ -23,14 +23,16 @@ pub data AnsweredOrShared : Told → Type 0 where
   answered : (owner : ℕ) → AnsweredOrShared (unfixed owner)
   still-shared : AnsweredOrShared (refused STILL-SHARED)
 
--- addresses of SHARED frames, each of another frame than those behind it
+-- the address of a SHARED frame
+abbrev pub IsShared : State → ℕ → Type 0
+IsShared s hpa = (isAddress hpa ≡ true) × ((e : Entry) × ((entryAt s (frameOf hpa) ≡ Good e) × (e .kind ≡ SHARED)))
+
+-- none of these is that address
 abbrev pub NoneOf : List ℕ → ℕ → Type 0
 NoneOf [] hpa = Unit {0}
 NoneOf (other ∷ rest) hpa = (other ≢ hpa) × NoneOf rest hpa
 
-abbrev pub IsShared : State → ℕ → Type 0
-IsShared s hpa = (isAddress hpa ≡ true) × ((e : Entry) × ((entryAt s (frameOf hpa) ≡ Good e) × (e .kind ≡ SHARED)))
-
+-- addresses of SHARED frames, no two the same
 abbrev pub SharedFrames : State → List ℕ → Type 0
 SharedFrames s [] = Unit {0}
 SharedFrames s (hpa ∷ rest) = IsShared s hpa × NoneOf rest hpa × SharedFrames s rest

@@ -52,7 +52,7 @@ FIXED = alone 10
 abbrev pub NOT-FIXED : Refusal
 NOT-FIXED = alone 11
 
--- the leaf's entry is not a well formed LEAF, or the word consulted is misshapen
+-- the leaf's entry is not a well formed LEAF, or the word consulted is misshapen; 02, Q-3: or the one present word is at index 0
 abbrev pub BROKEN-LEAF : Refusal
 BROKEN-LEAF = alone 12
 

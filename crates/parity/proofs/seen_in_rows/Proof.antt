@@ -3,11 +3,10 @@
 -- Assumes nothing.
 use mathlib.Core.Path.{_≡_, sym, _∙_}
 use mathlib.Core.Logic.{⊎-elim}
-use Prim.Native.Nat.{_+_, _*_, _-_, _<_, _≤_}
+use Prim.Native.Nat.{_+_, _*_, _-_, _≤_}
 use native.Mathlib.Omega.{arith}
 use lib.ListN.{length}
 use borrow.Author.Needs.{needs}
-use Rattle.parity.specs.Odd.{lastOdd}
 use Rattle.parity.proofs.ColumnLaws.{Turns, no-turns, turned, Found, found, place-found}
 use Rattle.parity.proofs.seen_in_rows.Statement.{statement}
 use Rattle.parity.proofs.seen_in_rows.Tie as tie
