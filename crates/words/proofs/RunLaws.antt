@@ -1,5 +1,5 @@
 -- A run pasted over words: the run stands where it was laid, and every other word stays; two runs with no differing word agree at every
--- place; each word adds its bit 0 to how many are odd. For runs of any length.
+-- place. For runs of any length.
 -- Assumes nothing.
 use mathlib.Core.Path.{_≡_, refl, sym, ap, _∙_}
 use mathlib.Core.Bool.{Bool, true, false}
