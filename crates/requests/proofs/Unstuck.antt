@@ -1,5 +1,5 @@
 -- No page is stuck. In a sound state the leaf of a fixed page is a LEAF, and its present words are guests' with an address; so nothing but
--- the count can refuse PUNFIX. Where two or more are present, the last can be unmerged into any SHARED frame, and one fewer is left.
+-- the count can refuse PUNFIX. Any guest in the page can be unmerged into any SHARED frame, and one fewer is left.
 -- Assumes nothing.
 use mathlib.Core.Path.{_≡_, refl, sym, ap, subst, _∙_}
 use mathlib.Core.Bool.{true, false}

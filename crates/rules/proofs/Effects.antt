@@ -287,3 +287,9 @@ module _ {s : State} {caller hpa : ℕ} {old : Entry} (p : Freed s caller hpa ol
       Unfixes s (unfixing (withFrame s (frameOf hpa) zeros) (frameOf hpa) old zeroEntry) (frameOf hpa) (leafFrame old) zeroEntry
   freeing-does =
       unfixing-does (p .page) (memory-frame s (frameOf hpa) zeros) (λ g i other. word-beside-frame s _ _ g i other) zeroEntry (zero-fits (N s))
+
+  pub freed-words : (i : ℕ) → wordAt (unfixing (withFrame s (frameOf hpa) zeros) (frameOf hpa) old zeroEntry) (frameOf hpa) i ≡ 0
+  freed-words i =
+      unfixed-words (p .page) (memory-frame s (frameOf hpa) zeros) (λ g i other. word-beside-frame s _ _ g i other) zeroEntry (zero-fits (N s)) _ i
+      (λ same. unfix-apart (p .page) (sym same))
+      ∙ word-after-zeros s _ i
