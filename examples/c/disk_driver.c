@@ -7,6 +7,7 @@
  *
  * Every answer is compared with what the rules say (docs/CALLS.md). The exit status is 0 only if all are as they should be.
  */
+#include "expect.h"
 #include "skorbilek.h"
 
 #include <inttypes.h>
@@ -26,22 +27,6 @@ static uint64_t disk[SECTORS][SECTOR_WORDS];
 /* A slice of each, as the calls take them. */
 #define TABLE table, sizeof table / sizeof *table
 #define MEMORY memory, sizeof memory / sizeof *memory
-
-static int faults = 0;
-
-/* Prints what was tried and what was answered, and compares it with the refusal that the rules give (0: accepted). No entry is bad here, so
-   that no refusal has a reason. */
-static void expect(uint64_t refusal, const char *what, skorbilek_answer answer)
-{
-    if (answer.kind != SKORBILEK_REFUSED)
-        printf("  %-62s accepted\n", what);
-    else
-        printf("  %-62s refused with %" PRIu64 "\n", what, answer.refusal);
-    if (answer.refusal != refusal || (answer.kind == SKORBILEK_REFUSED) != (refusal != 0) || answer.reason != 0) {
-        printf("  FAULT: the rules give %" PRIu64 "\n", refusal);
-        faults++;
-    }
-}
 
 /* The driver: one call for a sector, where it would be 512 by skorbilek_write. */
 static skorbilek_answer load(int sector, uint64_t hpa)

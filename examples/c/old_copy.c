@@ -8,6 +8,7 @@
  * Every answer is compared with what the rules say (docs/CALLS.md). The exit status is 0 only if all are as they should be and no number
  * was given twice.
  */
+#include "expect.h"
 #include "skorbilek.h"
 
 #include <inttypes.h>
@@ -26,22 +27,7 @@ static uint64_t memory[SKORBILEK_FRAME_WORDS * M];
 #define TABLE table, sizeof table / sizeof *table
 #define MEMORY memory, sizeof memory / sizeof *memory
 
-static int faults = 0;
 static uint64_t last_number = 0;
-
-/* Prints what was tried and what was answered, and compares it with the refusal that the rules give (0: accepted). No entry is bad here, so
-   that no refusal has a reason. */
-static void expect(uint64_t refusal, const char *what, skorbilek_answer answer)
-{
-    if (answer.kind != SKORBILEK_REFUSED)
-        printf("  %-62s accepted\n", what);
-    else
-        printf("  %-62s refused with %" PRIu64 "\n", what, answer.refusal);
-    if (answer.refusal != refusal || (answer.kind == SKORBILEK_REFUSED) != (refusal != 0) || answer.reason != 0) {
-        printf("  FAULT: the rules give %" PRIu64 "\n", refusal);
-        faults++;
-    }
-}
 
 /* The host gives a frame to a guest, which opens it as its page at gpa and writes the counter's value to word 0. */
 static void give(uint64_t guest, uint64_t gpa, uint64_t hpa, uint64_t value)
