@@ -9,8 +9,8 @@
 /* How many answers were not what the rules give. */
 static int faults = 0;
 
-/* Prints what was tried and what was answered, and compares it with the refusal that the rules give (0: accepted). No entry is bad in them, so
-   that no refusal has a reason. */
+/* Prints what was tried and what was answered, and compares it with the refusal that the rules give (0: accepted). These examples meet no
+   bad entry, so that no refusal has a reason. */
 static void expect(uint64_t refusal, const char *what, skorbilek_answer answer)
 {
     if (answer.kind != SKORBILEK_REFUSED)
