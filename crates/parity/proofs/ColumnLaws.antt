@@ -10,6 +10,9 @@ use Rattle.parity.specs.Odd.{bitAt, odd, lastOdd}
 use Rattle.words.proofs.ChoiceLaws.{same-or-not}
 use Rattle.parity.proofs.OddLaws.{odd-next, last-next, last-is-odd, others-even}
 
+plus-none : (n : ℕ) → n + 0 ≡ n
+plus-none n = omega arith
+
 module _ (words : List ℕ) where
   -- the bits 0 of a row together, and the place in it of an odd word, where it has one
   unfoldable rowBits : ℕ → ℕ
@@ -86,13 +89,13 @@ module _ (words : List ℕ) where
           rw sixteen at (row-counts (n + 12)),
         )
 
+    pub first-column : inColumn words n 0 ≡ bitAt words n + bitAt words (n + 4) + bitAt words (n + 8) + bitAt words (n + 12)
+    first-column = rw (plus-none n, plus-none (n + 4), plus-none (n + 8), plus-none (n + 12)) refl
+
     -- the same by columns
-    turn-columns :
-        (bitAt words n + bitAt words (n + 4) + bitAt words (n + 8) + bitAt words (n + 12)) + inColumn words n 1 + inColumn words n 2
-        + inColumn words n 3
-        ≡ turnBits
+    turn-columns : inColumn words n 0 + inColumn words n 1 + inColumn words n 2 + inColumn words n 3 ≡ turnBits
     unfolding rowBits
-    turn-columns = omega arith
+    turn-columns = omega (arith, first-column)
 
     turn-column : inColumn words n 1 + 2 * inColumn words n 2 + 3 * inColumn words n 3 ≡ inTurn
     unfolding inRow
@@ -232,8 +235,8 @@ module _ (words : List ℕ) (i : ℕ) {a b c d x y z w : ℕ} (so-far : Turns wo
   -- by columns, as the code has it
   pub turned :
       {e f g h : ℕ}
-      → e ≡ a + bitAt words (16 * i) + bitAt words (16 * i + 4) + bitAt words (16 * i + 8) + bitAt words (16 * i + 12)
-      → f ≡ b + inColumn words (16 * i) 1 → g ≡ c + inColumn words (16 * i) 2 → h ≡ d + inColumn words (16 * i) 3
+      → e ≡ a + inColumn words (16 * i) 0 → f ≡ b + inColumn words (16 * i) 1
+      → g ≡ c + inColumn words (16 * i) 2 → h ≡ d + inColumn words (16 * i) 3
       → Turns words (i + 1) e f g h ((x + e) % 2 ^ 32) ((y + f) % 2 ^ 32) ((z + g) % 2 ^ 32) ((w + h) % 2 ^ 32)
   turned {e} {f} {g} {h} p q r s =
       turns-next e f g h (omega (arith, p, q, r, s, turn-columns words (16 * i))) (omega (arith, q, r, s, turn-column words (16 * i)))

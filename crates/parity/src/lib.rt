@@ -151,8 +151,7 @@ impl Columns {
     // Counts, with the four rows from this place on.
     fn with_rows(self, run: &[u64], at: usize) -> Columns
         requires { ⌜ (at + 16 ≤ length (now run)) × (self .a + self .b + self .c + self .d < 2 ^ 30) ⌝ }
-        ensures { λ r. ⌜ (r .a ≡ self .a + bitAt (now (run .entry)) at + bitAt (now (run .entry)) (at + 4)
-            + bitAt (now (run .entry)) (at + 8) + bitAt (now (run .entry)) (at + 12))
+        ensures { λ r. ⌜ (r .a ≡ self .a + inColumn (now (run .entry)) at 0)
             × (r .b ≡ self .b + inColumn (now (run .entry)) at 1)
             × (r .c ≡ self .c + inColumn (now (run .entry)) at 2)
             × (r .d ≡ self .d + inColumn (now (run .entry)) at 3) ⌝ }

@@ -32,7 +32,7 @@ use Rattle.rules.proofs.Present.{last-present, one-fewer}
 use Rattle.rules.proofs.Sound.{Sound}
 use Rattle.rules.proofs.SoundSteps.{step-sound}
 use Rattle.rules.proofs.StateLaws.{entry-inside, entry-tells}
-use Rattle.requests.specs.Unstuck.{AnsweredOrShared, answered, still-shared, NoneOf, IsShared, SharedFrames, Unfixes, unfixes, unmerges}
+use Rattle.requests.specs.Unstuck.{AnsweredOrShared, answered, still-shared, NoneOf, IsShared, SharedFrames, Releases, unfixes, unmerges}
 use Rattle.requests.specs.Unstuck.{Released, NoPageStuck}
 use Rattle.requests.proofs.Asked.{afterwards-sound}
 
@@ -190,7 +190,7 @@ module _ (s after : State) (frame : ℕ) (address : isAddress frame ≡ true)
 released-by :
     (frames : List ℕ) {s : State} {hpa : ℕ} {page : Entry} → FixedIn s hpa page → SharedFrames s frames
     → length frames ≡ presentWords s (leafFrame page) - 1
-    → (after : State) × (Unfixes hpa s frames after × Released after hpa (leafFrame page))
+    → (after : State) × (Releases hpa s frames after × Released after hpa (leafFrame page))
 released-by [] p shared few =
     let found = few-answered p (omega (arith, few)) in
     (_, (unfixes (found .0 .0) (found .0 .1), found .1))

@@ -37,12 +37,12 @@ abbrev pub SharedFrames : State → List ℕ → Type 0
 SharedFrames s [] = Unit {0}
 SharedFrames s (hpa ∷ rest) = IsShared s hpa × NoneOf rest hpa × SharedFrames s rest
 
--- the page at hpa is unfixed: some guest is unmerged from it into each of these frames, in their order, and then PUNFIX is answered
-pub data Unfixes (hpa : ℕ) : State → List ℕ → State → Type 0 where
-  unfixes : {s : State} (owner : ℕ) → step s (PUNFIX 0 hpa) .told ≡ unfixed owner → Unfixes hpa s [] (step s (PUNFIX 0 hpa) .after)
+-- the page at hpa is released: some guest is unmerged from it into each of these frames, in their order, and then PUNFIX is answered
+pub data Releases (hpa : ℕ) : State → List ℕ → State → Type 0 where
+  unfixes : {s : State} (owner : ℕ) → step s (PUNFIX 0 hpa) .told ≡ unfixed owner → Releases hpa s [] (step s (PUNFIX 0 hpa) .after)
   unmerges :
       {s after : State} {frame : ℕ} {rest : List ℕ} (guest : ℕ) → step s (PUNMERGE 0 hpa frame guest) .told ≡ done
-      → Unfixes hpa (step s (PUNMERGE 0 hpa frame guest) .after) rest after → Unfixes hpa s (frame ∷ rest) after
+      → Releases hpa (step s (PUNMERGE 0 hpa frame guest) .after) rest after → Releases hpa s (frame ∷ rest) after
 
 -- after it the page is not fixed, and its leaf is SHARED
 pub record Released (s : State) (hpa leaf : ℕ) : Type 0 where
@@ -66,7 +66,7 @@ pub record Unstuck (s : State) (hpa : ℕ) (page : Entry) : Type 0 where
   -- with k guests in it: k - 1 PUNMERGEs into as many SHARED frames and one PUNFIX, or one PUNFIX where k is 0
   pub released :
       (frames : List ℕ) → SharedFrames s frames → length frames ≡ presentWords s (leafFrame page) - 1
-      → (after : State) × (Unfixes hpa s frames after × Released after hpa (leafFrame page))
+      → (after : State) × (Releases hpa s frames after × Released after hpa (leafFrame page))
 
 abbrev pub NoPageStuck : Type 0
 NoPageStuck =

@@ -2,6 +2,7 @@
 -- Assumes nothing.
 use native.Mathlib.Omega.{arith}
 use borrow.Author.Needs.{needs}
+use Rattle.parity.proofs.ColumnLaws.{first-column}
 use Rattle.parity.proofs.Columns.with_rows.Statement.{statement}
 use Rattle.parity.proofs.Columns.with_rows.Tie as tie
 
@@ -28,11 +29,12 @@ with-row-requires-4 c κs = search needs
 
 returns : tie.Need-returns
 returns c =
+    let args = c .before .before .before .before .before .args in
     let one = c .before .before .before .with-row .ensures in
     let two = c .before .before .with-row2 .ensures in
     let three = c .before .with-row3 .ensures in
     let four = c .with-row4 .ensures in (
-      omega (arith, one .0, two .0, three .0, four .0),
+      omega (arith, one .0, two .0, three .0, four .0, first-column (args .run .now) (args .at)),
       omega (arith, one .1, two .1, three .1, four .1),
       omega (arith, one .2, two .2, three .2, four .2),
       omega (arith, one .3, two .3, three .3, four .3),
