@@ -5,11 +5,13 @@ use Rattle.rules.specs.Answers.{Told, refused, done, none, closed, opened, alre
 use Rattle.rules.specs.Refusals as rules
 use Rattle.rules.specs.Refusals.{GEOMETRY, ARGUMENT, CALLER, OUTSIDE, BAD-ENTRY, TYPE, OWNER, ADDRESS, NOT-VALIDATED}
 use Rattle.rules.specs.Refusals.{FIXED, NOT-FIXED, BROKEN-LEAF, NO-PLACE, PLACE-TAKEN, LEAF-IN-USE, CONTENTS, STILL-SHARED}
+use Rattle.rules.specs.Refusals.{ABSENT-ENTRY, LARGE-PAGE}
 use Rattle.rules.specs.State.{state}
 use Rattle.checks.specs.declared.answer.Refusal.{Refusal}
 use Rattle.checks.specs.declared.answer.Refusal.the-variants.{Geometry, Argument, Caller, Outside, BadEntry, PageType, Owner}
 use Rattle.checks.specs.declared.answer.Refusal.the-variants.{Address, NotValidated, Fixed, NotFixed, BrokenLeaf, NoPlace}
-use Rattle.checks.specs.declared.answer.Refusal.the-variants.{PlaceTaken, LeafInUse, Contents, StillShared}
+use Rattle.checks.specs.declared.answer.Refusal.the-variants.{PlaceTaken, LeafInUse, Contents, StillShared, AbsentEntry}
+use Rattle.checks.specs.declared.answer.Refusal.the-variants.{LargePage}
 use Rattle.checks.specs.declared.answer.Answer.{Answer}
 use Rattle.checks.specs.declared.answer.Answer.the-variants.{Refused, Done, None, Closed, Opened, Already, Unfixed, Word, Count}
 
@@ -32,6 +34,8 @@ means PlaceTaken = PLACE-TAKEN
 means LeafInUse = LEAF-IN-USE
 means Contents = CONTENTS
 means StillShared = STILL-SHARED
+means AbsentEntry = ABSENT-ENTRY
+means LargePage = LARGE-PAGE
 
 abbrev pub told : Answer → Told
 told (Refused r) = refused (means r)

@@ -22,6 +22,9 @@ pub enum Refusal {
     LeafInUse,
     Contents,
     StillShared,
+    // on the way of a walk
+    AbsentEntry,
+    LargePage,
 }
 
 impl Refusal {
@@ -47,6 +50,8 @@ impl Refusal {
             Refusal::LeafInUse => 15,
             Refusal::Contents => 16,
             Refusal::StillShared => 17,
+            Refusal::AbsentEntry => 18,
+            Refusal::LargePage => 19,
         }
     }
 

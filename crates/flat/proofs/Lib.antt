@@ -1,2 +1,3 @@
 -- Laws that the proofs of the exported functions cite.
 pub mod Carried
+pub mod Named

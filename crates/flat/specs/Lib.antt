@@ -1,2 +1,3 @@
 -- The answers as C gets them.
 pub mod Flat
+pub mod Virtual

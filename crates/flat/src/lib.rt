@@ -4,6 +4,8 @@ ghost use Rattle.checks.specs.Answer.{told};
 ghost use Rattle.flat.specs.Flat.{numbers, flat};
 use checks::answer::Answer;
 
+pub mod virtual_address;
+
 // The kinds of answers.
 pub const REFUSED: u64 = 0;
 

@@ -17,7 +17,7 @@ pub requests-keep-demand-3 : RequestsDemand3
 requests-keep-demand-3 length memory requests =
     let start = emptyTable length memory in
     thinned (all-count start requests)
-    (subst (NoCounterGoesBack _) (all-leave start requests) (no-counter-goes-back length memory (allCalls requests)))
+    (subst (NoCounterGoesBack _) (all-leave start requests) (no-counter-goes-back length memory (allCalls start requests)))
 
 pub afterwards-sound : (s : State) (requests : List Request) → Sound s → Sound (afterwards s requests)
-afterwards-sound s requests sound = subst Sound (all-leave s requests) (finally-sound s (allCalls requests) sound)
+afterwards-sound s requests sound = subst Sound (all-leave s requests) (finally-sound s (allCalls s requests) sound)

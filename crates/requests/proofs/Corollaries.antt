@@ -24,7 +24,7 @@ use Rattle.requests.proofs.Thinned.{thin-openings, thin-closings}
 
 -- ---- no request of a list changes a size
 same-size : (s : State) (requests : List Request) → SameSize s (afterwards s requests)
-same-size s requests = subst (SameSize s) (all-leave s requests) (finally-size s (allCalls requests))
+same-size s requests = subst (SameSize s) (all-leave s requests) (finally-size s (allCalls s requests))
 
 pub sizes-stay : SizesStay
 sizes-stay s requests = let same = same-size s requests in (same .same-N, same .same-M, same .same-sized)
@@ -42,7 +42,7 @@ census-kept length memory requests guest size g =
       answered = rw whole (census-answered end sound guest (same-size start requests .same-sized ∙ size) g);
       balanced = sum-add _ _ _ _ (λ gpa. requests-keep-demand-3 length memory requests .counted guest gpa g);
       nowhere-else = λ gpa none.
-          let nothing = none-there start (allCalls requests) guest gpa (empty-sound length memory) g none in
+          let nothing = none-there start (allCalls start requests) guest gpa (empty-sound length memory) g none in
           (sym (thin-closings guest gpa thins) ∙ nothing .0, sym (thin-openings guest gpa thins) ∙ nothing .1);
     }
 

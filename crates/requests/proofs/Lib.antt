@@ -2,6 +2,7 @@
 pub mod AsCalls
 pub mod Asked
 pub mod Corollaries
+pub mod Counts
 pub mod Never
 pub mod PageWords
 pub mod Refused
@@ -9,3 +10,4 @@ pub mod Run
 pub mod Shared
 pub mod Thinned
 pub mod Unstuck
+pub mod VirtualCalls

@@ -1,4 +1,4 @@
--- From an empty table no request is refused with 5 or 12: in a sound state no call of 01 is, and a request is refused as a call is.
+-- From an empty table no request is refused with 5 or 12: each of them has a fault of the state as its cause, and a sound state has none.
 -- Assumes nothing.
 use mathlib.Core.Path.{_≡_, refl}
 use mathlib.Core.Bool.{false≢true}
@@ -6,27 +6,23 @@ use mathlib.Core.List.{List, [], _∷_, _++_}
 use mathlib.Core.Logic.{_≢_}
 use Prim.Native.Nat.{ℕ}
 use Rattle.rules.specs.Answers.{refused}
-use Rattle.rules.specs.Refusals.{Refusal, BAD-ENTRY, BROKEN-LEAF}
+use Rattle.rules.specs.Refusals.{BAD-ENTRY, BROKEN-LEAF}
 use Rattle.rules.specs.State.{State}
 use Rattle.rules.proofs.History.{empty-sound}
-use Rattle.rules.proofs.Never.{Unbroken, ordinary-unbroken, sound-never}
+use Rattle.rules.proofs.Never.{sound-unbroken}
 use Rattle.rules.proofs.Sound.{Sound}
 use Rattle.requests.specs.Asked.{Asked, asked, requested, afterwards, NeverBroken}
 use Rattle.requests.specs.Requests.{Request, Reply, tells, respond}
 use Rattle.requests.proofs.Asked.{afterwards-sound}
-use Rattle.requests.proofs.Refused.{RefusedAs, as-call, for-run, refused-as}
+use Rattle.requests.proofs.Refused.{request-why}
 
 -- no refusal with 5 or 12
 abbrev UnbrokenReply : Reply → Type 0
 UnbrokenReply reply = ((reason : ℕ) → reply ≢ tells (refused (BAD-ENTRY reason))) × (reply ≢ tells (refused BROKEN-LEAF))
 
-as-unbroken : {s : State} {frames : List ℕ} {r : Refusal} → Sound s → RefusedAs s frames r → Unbroken r
-as-unbroken {s} {r = r} sound (as-call c same h) = sound-never s sound c r h
-as-unbroken sound (for-run {n} o) = ordinary-unbroken n o
-
 reply-unbroken : (s : State) → Sound s → (request : Request) → UnbrokenReply (respond s request .reply)
 reply-unbroken s sound request =
-    (λ reason h. as-unbroken sound (refused-as s request _ h) .0 reason refl, λ h. as-unbroken sound (refused-as s request _ h) .1 refl)
+    (λ reason h. sound-unbroken sound (request-why s request _ h) .0 reason refl, λ h. sound-unbroken sound (request-why s request _ h) .1 refl)
 
 -- a request of a list got what those before it left
 each-unbroken :

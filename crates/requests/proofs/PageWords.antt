@@ -15,14 +15,14 @@ use Rattle.rules.specs.Answers.{Told, refused, done, word, Outcome, outcome, Ve
 use Rattle.rules.specs.Calls.{WRITE, step}
 use Rattle.rules.specs.History.{Made, made, history, finally}
 use Rattle.rules.specs.Refusals.{Refusal, GEOMETRY, ARGUMENT}
-use Rattle.rules.specs.State.{State, M, sized, wordAt, withWord, withFrame}
+use Rattle.rules.specs.State.{State, sized, wordAt, withWord, withFrame}
 use Rattle.rules.proofs.Chain.{check-passed, check-failed}
+use Rattle.rules.proofs.Settled.{Settled, passes, refuses, Sane}
 use Rattle.rules.proofs.StateLaws.{frame-has, withWords, frame-by-words, size-word, entry-after-word}
 use Rattle.requests.specs.Pages.{sharedAccess, readable, handed, pageRead, pageCheck, pageWrite}
 use Rattle.requests.specs.PageWords.{PageIsReads, whole, empty, PageReadIsReads, writes, PageIsWrites, PageWriteIsWrites}
 use Rattle.requests.specs.PageWords.{UnfitIsArgument}
-use Rattle.requests.proofs.Shared.{shared, access-shared, Settled, passes, refuses, shared-settled, shared-same}
-use Rattle.requests.proofs.Shared.{sized-again}
+use Rattle.requests.proofs.Shared.{shared, access-shared, shared-settled, shared-same, sized-again}
 
 module _ (caller gpa hpa : ℕ) where
   -- ---- a reading
@@ -37,10 +37,10 @@ module _ (caller gpa hpa : ℕ) where
     unfolding read
     read-is i h = ap (settle s) (access-shared s _ caller gpa hpa i _ h)
 
-    read-by : Settled (frameOf hpa < M s) (shared s caller gpa hpa) → PageIsReads s caller gpa hpa
+    read-by : Settled (Sane s (frameOf hpa)) (shared s caller gpa hpa) → PageIsReads s caller gpa hpa
     unfolding pageCheck pageRead handed settle
-    read-by (passes inside through) =
-        let frame = frame-has s (frameOf hpa) inside in
+    read-by (passes sane through) =
+        let frame = frame-has s (frameOf hpa) (sane .0) in
         whole (rw (readable-is, through _)) (rw (readable-is, through _) (frame .0))
         (λ i h. read-is i h ∙ rw (readable-is, through (grant done s), through _, frame .1 i))
     read-by (refuses r stops) =
@@ -118,15 +118,15 @@ module _ (caller gpa hpa : ℕ) where
         each-answered _ (suc i) words past rest m (same s i value p (omega arith) .1) (omega arith) (cc)
 
   written-by :
-      (s : State) (words : List ℕ) → length words ≡ 512 → Settled (frameOf hpa < M s) (shared s caller gpa hpa)
+      (s : State) (words : List ℕ) → length words ≡ 512 → Settled (Sane s (frameOf hpa)) (shared s caller gpa hpa)
       → PageIsWrites s caller gpa hpa words
   unfolding settle Through
-  written-by s words e (passes inside through) =
+  written-by s words e (passes sane through) =
       let written : pageWrite s caller gpa hpa words ≡ outcome done (withFrame s (frameOf hpa) words) =
       page-write-is s words e ∙ rw (through _) in
       record {
         leaves = ap (λ o. o .after) written
-            ∙ sym (writes-leave s 0 words through (omega arith) ∙ frame-by-words s (frameOf hpa) words inside e);
+            ∙ sym (writes-leave s 0 words through (omega arith) ∙ frame-by-words s (frameOf hpa) words (sane .0) e);
         answers = λ past rest m h.
             each-answered Through done
             (λ u i value p l. let w = write-through u i value p l in (ap (λ o. o .told) w, rw w (still-through u i value p)))

@@ -1,14 +1,18 @@
--- 02, Q-1, "Demand 3 is unchanged, and its lists may hold these three calls too": lists of requests, the calls of 01 that they count as,
--- and what is claimed of them.
+-- 02, Q-1, "Demand 3 is unchanged, and its lists may hold these three calls too", and Q-4, "demand 3 counts it as 01's call there": lists of
+-- requests, the calls of 01 that they count as, and what is claimed of them.
 use mathlib.Core.Path.{_≡_}
-use mathlib.Core.List.{List, [], _∷_, _++_}
+use mathlib.Core.List.{List, [], _∷_, _++_, map}
 use mathlib.Core.Logic.{_≢_}
 use Prim.Native.Nat.{ℕ}
 use Rattle.rules.specs.Answers.{refused, outcome}
+use Rattle.rules.specs.Calls.{Call}
 use Rattle.rules.specs.History.{Made, made, NoCounterGoesBack}
 use Rattle.rules.specs.Refusals.{BAD-ENTRY, BROKEN-LEAF}
 use Rattle.rules.specs.State.{State, emptyTable, N, M, sized}
-use Rattle.requests.specs.Requests.{Request, CALL, PAGE-READ, PAGE-WRITE, PAGE-CHECK, Reply, tells, hands, Response, respond}
+use Rattle.paging.specs.Walk.{Walked, reaches, stops, Mapping, translated}
+use Rattle.requests.specs.Requests.{Request, CALL, PAGE-READ, PAGE-WRITE, PAGE-CHECK, WALK, BY-VA, Reply, tells, hands, names, maps}
+use Rattle.requests.specs.Requests.{Response, respond}
+use Rattle.requests.specs.Virtual.{Form, formFits, callOn}
 
 -- a request as it was made: with the table and memory that it got, its reply, and table and memory as it left them
 pub record Asked : Type 0 where
@@ -30,14 +34,29 @@ unfoldable pub afterwards : State → List Request → State
 afterwards s [] = s
 afterwards s (request ∷ rest) = afterwards (respond s request .after) rest
 
--- the call of 01 that a request counts as, or none. Those of Q-1 are no opening, no closing, and no private or mergeable read or write.
--- (No reply to a call of 01 is a part of memory.)
+-- the call of 01 that a request comes to, or none. Those of Q-1 are no opening, no closing, and no private or mergeable read or write, and
+-- the walk is none. A call by virtual address is 01's call on what its walk yields; one that is refused on the way is none.
+unfoldable pub callThere : ℕ → Form → Walked Mapping → List Call
+callThere caller form (reaches m) = callOn caller form m ∷ []
+callThere caller form (stops refusal) = []
+
+unfoldable pub comesTo : State → Request → List Call
+comesTo s (CALL call) = call ∷ []
+comesTo s (PAGE-READ caller gpa hpa) = []
+comesTo s (PAGE-WRITE caller gpa hpa words) = []
+comesTo s (PAGE-CHECK caller gpa hpa) = []
+comesTo s (WALK at) = []
+comesTo s (BY-VA at form) = callThere (at .caller) form (translated s at (formFits form))
+
+-- the calls as they were made, with the answer of 01 in the reply. (No reply to them is a part of memory or a mapping.)
+unfoldable pub madeAs : List Call → Reply → State → State → List Made
+madeAs calls (tells told) got left = map (λ (call : Call). made call got (outcome told left)) calls
+madeAs calls (names gpa told) got left = map (λ (call : Call). made call got (outcome told left)) calls
+madeAs calls (hands part) got left = []
+madeAs calls (maps mapping) got left = []
+
 unfoldable pub countsAs : Request → Reply → State → State → List Made
-countsAs (CALL call) (tells told) got left = made call got (outcome told left) ∷ []
-countsAs (CALL call) (hands part) got left = []
-countsAs (PAGE-READ caller gpa hpa) reply got left = []
-countsAs (PAGE-WRITE caller gpa hpa words) reply got left = []
-countsAs (PAGE-CHECK caller gpa hpa) reply got left = []
+countsAs request reply got left = madeAs (comesTo got request) reply got left
 
 unfoldable pub counted : List Asked → List Made
 counted [] = []

@@ -3,15 +3,17 @@
 -- all that knows an entry's words in the table, but for worked examples.
 -- Assumes nothing.
 use mathlib.Core.Path.{_≡_, refl, sym, ap, _∙_}
+use mathlib.Core.Bool.{true}
 use mathlib.Core.List.{List}
 use mathlib.Core.Logic.{_≢_, ⊎-elim}
 use Prim.Native.Nat.{ℕ, _+_, _*_, _≤_, _<_}
 use native.Mathlib.Omega.{arith}
+use lib.Dec.{eqb}
 use lib.ListN.{length, getD, set, replicate, length-set, length-replicate, getD-replicate}
 use lib.Seq.{getD-set-same, getD-set-other, set-getD}
-use borrow.Author.Tests.{lt-ltb, le-ltb, ltb-true}
+use borrow.Author.Tests.{lt-ltb, le-ltb, ltb-true, eqb-true}
 use Rattle.words.specs.Choice.{pick, _and_, _or_}
-use Rattle.words.proofs.ChoiceLaws.{lt-or-le, pick-true, pick-false}
+use Rattle.words.proofs.ChoiceLaws.{lt-or-le, pick-true, pick-false, and-left, and-right}
 use Rattle.entries.specs.Entry.{isOwned, isUnowned, zeroEntry, entry, asidFits, flagsFit, addressFits, rule, byRules, WellFormed}
 use Rattle.entries.specs.Entry.{fields, decoded, encoded}
 use Rattle.entries.specs.Reasons.{NO-ENTRY}
@@ -105,6 +107,15 @@ put-same t f e g =
 pub decode-zero : (n : ℕ) → decoded n 0 0 ≡ Good zeroEntry
 unfolding decoded fields zeroEntry entry byRules rule asidFits flagsFit addressFits isOwned isUnowned pick _and_ _or_
 decode-zero n = refl
+
+-- an entry of two zero words
+pub entry-blank :
+    (t : List ℕ) (f : ℕ) → f < covered t → eqb (getD t (2 * f) 0) 0 and eqb (getD t (2 * f + 1) 0) 0 ≡ true → entryIn t f ≡ Good zeroEntry
+unfolding entryIn
+entry-blank t f h blank =
+    let word0 : getD t (2 * f) 0 ≡ 0 = eqb-true _ _ (and-left _ _ blank) in
+    let word1 : getD t (2 * f + 1) 0 ≡ 0 = eqb-true _ _ (and-right _ _ blank) in
+    pick-true _ _ (lt-ltb _ _ h) ∙ rw (word0, word1) (decode-zero (covered t))
 
 pub entry-empty : (k f : ℕ) → f < covered (replicate k 0) → entryIn (replicate k 0) f ≡ Good zeroEntry
 unfolding entryIn covered

@@ -21,7 +21,7 @@ ordinary-carries n o = none (λ e. false≢true (rw e at o)) refl
 twelve-other : _≢_ {A = ℕ} 12 5
 twelve-other h = omega arith
 
-carried : {s : State} {frames : List ℕ} {r : Refusal} → Cause s frames r → Carries s frames r
+pub carried : {s : State} {frames : List ℕ} {r : Refusal} → Cause s frames r → Carries s frames r
 carried (plain {n} o) = ordinary-carries n o
 carried {s} (fault (bad-entry f reason inside here first)) =
     let within = entry-reason s f reason inside here in its-reason refl (sym first) (within .0) (within .1)

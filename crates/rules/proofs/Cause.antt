@@ -1,6 +1,6 @@
 -- Why a call may be refused: with 5 and 12 only where the state has the fault that they name, and then 5 with the first reason among the
--- frames that the call names or meets; of any other number it is only asked that it is one of the seventeen, and comes alone. A holding
--- that fails, and so a tally that stops, has met such a fault.
+-- frames that the call names or meets; of any other number it is only asked that it is in the table of refusals, and comes alone. A
+-- holding that fails, and so a tally that stops, has met such a fault.
 -- Assumes nothing.
 use mathlib.Core.Path.{_≡_, refl, _∙_}
 use mathlib.Core.Bool.{Bool, true, false≢true, not, _&&_}
@@ -18,7 +18,7 @@ use Rattle.entries.specs.declared.leaf.LeafWord.the-variants.{Absent, Present, 
 use Rattle.rules.specs.Census.{Holding, holds, nothing, fails, inLeaf, inEntry, holding, Tally, total, stopped, counted, tally}
 use Rattle.rules.specs.Leaves.{consulted}
 use Rattle.rules.specs.Reasons.{rising, firstReason}
-use Rattle.rules.specs.Refusals.{Refusal, alone, BAD-ENTRY, BROKEN-LEAF, STILL-SHARED}
+use Rattle.rules.specs.Refusals.{Refusal, alone, BAD-ENTRY, BROKEN-LEAF, LARGE-PAGE}
 use Rattle.rules.specs.State.{State, N, entryAt}
 use Rattle.rules.proofs.FirstReason.{named-bad, named-good, none-before, some-before}
 use Rattle.rules.proofs.Leaves.{Broken}
@@ -35,14 +35,14 @@ pub data Fault (s : State) (frames : List ℕ) : Refusal → Type 0 where
 
 -- a number up to the last, other than those two. It computes at a number that is written out, so that `refl` shows it.
 abbrev pub ordinary : ℕ → Bool
-ordinary n = leb n (STILL-SHARED .number) && not (eqb n 5) && not (eqb n (BROKEN-LEAF .number))
+ordinary n = leb n (LARGE-PAGE .number) && not (eqb n 5) && not (eqb n (BROKEN-LEAF .number))
 
 pub data Cause (s : State) (frames : List ℕ) : Refusal → Type 0 where
   plain : {n : ℕ} → ordinary n ≡ true → Cause s frames (alone n)
   fault : {r : Refusal} → Fault s frames r → Cause s frames r
 
 -- a fault of some frames is one of more behind them
-more-frames : (s : State) (frames more : List ℕ) {r : Refusal} → Fault s frames r → Fault s (frames ++ more) r
+pub more-frames : (s : State) (frames more : List ℕ) {r : Refusal} → Fault s frames r → Fault s (frames ++ more) r
 more-frames s frames more (bad-entry f reason inside here first) =
     let some = entry-reason s f reason inside here .0 in
     bad-entry f reason inside here (some-before s frames more (rw first some) ∙ first)

@@ -13,7 +13,7 @@ use Rattle.words.proofs.ChoiceLaws.{true-or-false, pick-false, and-left, and-ri
 use Rattle.entries.specs.Entry.{bit}
 use Rattle.rules.specs.Calls.{Call, step}
 use Rattle.rules.specs.History.{Made, made, history, finally, Event, opens, closes, reads, writes, noEvent, event}
-use Rattle.rules.specs.History.{isOpening, isClosing, openings}
+use Rattle.rules.specs.History.{isOpening, isClosing, openings, closings}
 use Rattle.rules.specs.State.{State}
 
 -- ---- counts
@@ -22,6 +22,12 @@ pub openings-append :
 unfolding openings
 openings-append [] rest guest gpa = omega arith
 openings-append (m ∷ past) rest guest gpa = let tail = openings-append past rest guest gpa in omega arith
+
+pub closings-append :
+    (past rest : List Made) (guest gpa : ℕ) → closings (past ++ rest) guest gpa ≡ closings past guest gpa + closings rest guest gpa
+unfolding closings
+closings-append [] rest guest gpa = omega arith
+closings-append (m ∷ past) rest guest gpa = let tail = closings-append past rest guest gpa in omega arith
 
 -- an event counts at most one, and an opening one
 pub bit-most : (b : Bool) → bit b ≤ 1

@@ -23,6 +23,7 @@ pub mod Passed
 pub mod PlaceChanges
 pub mod PlaceLaws
 pub mod Present
+pub mod Settled
 pub mod Sound
 pub mod SoundSteps
 pub mod StateLaws

@@ -25,7 +25,7 @@ pub ordinary-unbroken : (n : ℕ) → ordinary n ≡ true → Unbroken (alone n)
 ordinary-unbroken n o =
     (λ reason e. false≢true (rw (ap (λ (r : Refusal). r .number) e) at o), λ e. false≢true (rw (ap (λ (r : Refusal). r .number) e) at o))
 
-sound-unbroken : {s : State} {frames : List ℕ} {r : Refusal} → Sound s → Cause s frames r → Unbroken r
+pub sound-unbroken : {s : State} {frames : List ℕ} {r : Refusal} → Sound s → Cause s frames r → Unbroken r
 sound-unbroken sound (plain {n} o) = ordinary-unbroken n o
 sound-unbroken sound (fault f) = absurd (sound-faultless sound f)
 

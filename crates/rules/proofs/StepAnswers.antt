@@ -27,8 +27,8 @@ use Rattle.rules.proofs.StateLaws.{sizes, entry-tells}
 use Rattle.rules.proofs.Stepped.{step-cases}
 
 -- ---- a refusal other than 5
-ordinary-small : (n : ℕ) → ordinary n ≡ true → n ≤ 17
-ordinary-small n o = ⊎-elim (λ (h : 17 < n). absurd (false≢true (rw (lt-leb n 17 h) at o))) (λ h. h) (lt-or-le 17 n)
+ordinary-small : (n : ℕ) → ordinary n ≡ true → n ≤ 19
+ordinary-small n o = ⊎-elim (λ (h : 19 < n). absurd (false≢true (rw (lt-leb n 19 h) at o))) (λ h. h) (lt-or-le 19 n)
 
 refusal-answers :
     {s : State} {frames : List ℕ} {c : Call} (r : Refusal) → Cause s frames r → MeetsNoBadEntry (refused r) → MayAnswer c (refused r)

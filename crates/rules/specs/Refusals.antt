@@ -1,4 +1,5 @@
--- 01, "Refusal numbers": the table, whole. The rules name a refusal, and only this file gives the names their numbers.
+-- 01, "Refusal numbers": the table, whole, and what 02 adds to it. The rules name a refusal, and only this file gives the names their
+-- numbers.
 use Prim.Native.Nat.{ℕ}
 
 -- 02, Q-2: "Every call that refuses with 5 passes the reason on ..; else it is zero." So a refusal is a number with a reason; "5 no longer
@@ -75,3 +76,11 @@ CONTENTS = alone 16
 -- 02, Q-3: two or more words of the leaf are present
 abbrev pub STILL-SHARED : Refusal
 STILL-SHARED = alone 17
+
+-- 02, Q-4: the walk meets an entry of a page table that is not present
+abbrev pub ABSENT-ENTRY : Refusal
+ABSENT-ENTRY = alone 18
+
+-- 02, Q-4: the walk meets an entry of a large page, or one at the top level with bit 7 set
+abbrev pub LARGE-PAGE : Refusal
+LARGE-PAGE = alone 19

@@ -82,15 +82,16 @@ pub fn census(table: &[u64], memory: &[u64], asid: u64) -> Answer {
     })
 }
 
-/// The arguments of READ and WRITE without the value.
-pub(crate) struct Access {
-    caller: u64,
-    gpa: u64,
-    hpa: u64,
-    gtype: u64,
-    ntype: u64,
-    index: u64,
-    writes: bool,
+/// The arguments of READ and WRITE without the value. The types are numbers,
+/// and `Kind`s once they are checked.
+pub(crate) struct Access<T = u64> {
+    pub caller: u64,
+    pub gpa: u64,
+    pub hpa: u64,
+    pub gtype: T,
+    pub ntype: T,
+    pub index: u64,
+    pub writes: bool,
 }
 
 impl Access {
@@ -117,20 +118,35 @@ impl Access {
             is_address(self.gpa) && is_address(self.hpa),
             Refusal::Argument,
         )?;
-        let gtype = access_kind(self.gtype)?;
-        let ntype = access_kind(self.ntype)?;
-        require(self.index < FRAME_WORDS as u64, Refusal::Argument)?;
-        let both_shared = gtype == Kind::Shared && ntype == Kind::Shared;
+        let access = Access {
+            caller: self.caller,
+            gpa: self.gpa,
+            hpa: self.hpa,
+            gtype: access_kind(self.gtype)?,
+            ntype: access_kind(self.ntype)?,
+            index: self.index,
+            writes: self.writes,
+        };
+        require(is_index(self.index), Refusal::Argument)?;
+        let both_shared = access.gtype == Kind::Shared && access.ntype == Kind::Shared;
         require(self.caller != HOST || both_shared, Refusal::Caller)?;
+        access.check_frame(table, memory)
+    }
+}
+
+impl Access<Kind> {
+    /// The checks from 4 on, where sizes, arguments and caller are good.
+    #[inline(always)]
+    pub(crate) fn check_frame(&self, table: &[u64], memory: &[u64]) -> Result<usize, Refusal> {
         let m = memory.len() / FRAME_WORDS;
         let frame = frame_below(m, self.hpa).ok_or(Refusal::Outside)?;
-        require(gtype == ntype, Refusal::Type)?;
+        require(self.gtype == self.ntype, Refusal::Type)?;
 
         if frame >= entries(table).len() {
-            require(gtype == Kind::Shared, Refusal::Type)?;
+            require(self.gtype == Kind::Shared, Refusal::Type)?;
         } else {
             let page = entry(table, frame)?;
-            require(page.kind == gtype, Refusal::Type)?;
+            require(page.kind == self.gtype, Refusal::Type)?;
             if page.kind != Kind::Shared {
                 self.check_page(table, memory, page)?;
             }
@@ -156,8 +172,14 @@ impl Access {
 
 /// The types of an access: all but LEAF.
 #[inline]
-fn access_kind(number: u64) -> Result<Kind, Refusal> {
+pub(crate) fn access_kind(number: u64) -> Result<Kind, Refusal> {
     Kind::from_number(number)
         .filter(|&kind| kind != Kind::Leaf)
         .ok_or(Refusal::Argument)
+}
+
+/// Whether a page has a word of this index.
+#[inline]
+pub(crate) fn is_index(index: u64) -> bool {
+    index < FRAME_WORDS as u64
 }

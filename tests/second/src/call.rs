@@ -4,6 +4,7 @@
 use std::fmt;
 
 use crate::layout::Reason;
+use crate::walk::{self, Mapping, Reached, Virtual};
 use crate::{access, pages, rules};
 
 /// The refusals, in the order of their numbers.
@@ -26,6 +27,10 @@ pub enum Refusal {
     LeafInUse,
     Contents,
     StillShared,
+    /// An entry of a page table that is absent (document 02, Q-4).
+    AbsentEntry,
+    /// An entry of a page table for a large page.
+    LargePage,
 }
 
 impl Refusal {
@@ -48,6 +53,8 @@ impl Refusal {
             Self::LeafInUse => 15,
             Self::Contents => 16,
             Self::StillShared => 17,
+            Self::AbsentEntry => 18,
+            Self::LargePage => 19,
         }
     }
 
@@ -188,8 +195,9 @@ impl fmt::Display for Call {
     }
 }
 
-/// A call that a list of demand 3 may hold: one of the nine, or one of the
-/// three on whole pages (document 02, Q-1).
+/// A call that a list of demand 3 may hold: one of the nine, one of the three
+/// on whole pages (document 02, Q-1), or one of the four by virtual address
+///
 #[derive(Clone, PartialEq, Eq, Debug)]
 #[rustfmt::skip]
 pub enum Request {
@@ -197,6 +205,10 @@ pub enum Request {
     PageRead { caller: u64, gpa: u64, hpa: u64 },
     PageWrite { caller: u64, gpa: u64, hpa: u64, words: Vec<u64> },
     PageCheck { caller: u64, gpa: u64, hpa: u64 },
+    Walk(Virtual),
+    PvalidateVa { at: Virtual, kind: u64 },
+    ReadVa { at: Virtual, index: u64 },
+    WriteVa { at: Virtual, index: u64, value: u64 },
 }
 
 /// What a request is answered.
@@ -205,6 +217,10 @@ pub enum Reply<'m> {
     Answer(Answer),
     /// What `page_read` handed back.
     Page(&'m [u64]),
+    /// What `walk` yielded.
+    Mapping(Result<Mapping, Refusal>),
+    /// What another call by virtual address answered.
+    Reached(Reached),
 }
 
 impl Request {
@@ -220,6 +236,26 @@ impl Request {
                 Reply::Answer(pages::page_write(table, memory, caller, gpa, hpa, words)),
             Self::PageCheck { caller, gpa, hpa } =>
                 Reply::Answer(pages::page_check(table, memory, caller, gpa, hpa)),
+            Self::Walk(at) => {
+                let Virtual { caller, root, root_type, host_root, va } = at;
+                Reply::Mapping(walk::walk(
+                    table, memory, caller, root, root_type, host_root, va))
+            }
+            Self::PvalidateVa { at, kind } => {
+                let Virtual { caller, root, root_type, host_root, va } = at;
+                Reply::Reached(walk::pvalidate_va(
+                    table, memory, caller, root, root_type, host_root, va, kind))
+            }
+            Self::ReadVa { at, index } => {
+                let Virtual { caller, root, root_type, host_root, va } = at;
+                Reply::Reached(walk::read_va(
+                    table, memory, caller, root, root_type, host_root, va, index))
+            }
+            Self::WriteVa { at, index, value } => {
+                let Virtual { caller, root, root_type, host_root, va } = at;
+                Reply::Reached(walk::write_va(
+                    table, memory, caller, root, root_type, host_root, va, index, value))
+            }
         }
     }
 }

@@ -66,7 +66,7 @@ impl Kind {
 
     /// The type in the low two bits.
     #[inline]
-    fn from_low_bits(bits: u64) -> Self {
+    pub(crate) fn from_low_bits(bits: u64) -> Self {
         match bits & 3 {
             0 => Self::Shared,
             1 => Self::Private,

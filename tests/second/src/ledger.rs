@@ -5,6 +5,9 @@ use std::collections::BTreeMap;
 
 use crate::call::{Answer, Call, Reply, Request};
 use crate::layout::{is_asid, Entry, Kind, LeafWord, ENTRY_WORDS, FRAME_BYTES, FRAME_WORDS};
+use crate::walk::{walk, Mapping, Reached, Virtual};
+
+const NO_ANSWER: &str = "no answer to this call";
 
 /// A guest and one of its page addresses: ASID, GPA.
 type Holding = (u64, u64);
@@ -49,25 +52,51 @@ impl Ledger {
             .map_err(|broken| format!("`{call}` answered {answer:?}: {broken}"))
     }
 
-    /// Notes a request, as `note` does a call. One for a whole page is SHARED,
-    /// so it enters no account.
+    /// Notes a request, as `note` does a call. `table_before` is the table as
+    /// the request got it.
     pub fn note_request(
         &mut self,
         request: &Request,
         reply: Reply,
+        table_before: &[u64],
         memory_before: &[u64],
     ) -> Result<(), String> {
-        match (request, reply) {
-            (Request::Call(call), Reply::Answer(answer)) => self.note(call, answer, memory_before),
-            _ if page_fits(request, reply) => Ok(()),
-            _ => Err(format!("{request:x?} answered {reply:x?}: no such answer")),
+        if let (Request::Call(call), Reply::Answer(answer)) = (request, reply) {
+            return self.note(call, answer, memory_before);
+        }
+        self.enter_request(request, reply, table_before, memory_before)
+            .map_err(|broken| format!("{request:x?} answered {reply:x?}: {broken}"))
+    }
+
+    /// Enters a request that is none of the nine calls. One for a whole page is
+    /// SHARED, so it enters no account, and neither do the reads of a walk.
+    fn enter_request(
+        &mut self,
+        request: &Request,
+        reply: Reply,
+        table: &[u64],
+        memory: &[u64],
+    ) -> Result<(), String> {
+        if page_fits(request, reply) || walk_refusal_fits(request, reply) {
+            return Ok(());
+        }
+        let at = virtual_address(request).ok_or(NO_ANSWER)?;
+        let mapping = walked(at, table, memory)?;
+        match (call_at(request, mapping), reply) {
+            (None, Reply::Mapping(Ok(yielded))) if yielded == mapping => Ok(()),
+            (Some(call), Reply::Reached(Reached { answer, gpa }))
+                if gpa == mapping.gpa && !matches!(answer, Answer::Refused { .. }) =>
+            {
+                self.enter(&call, answer, memory)
+            }
+            _ => Err(format!("the walk yields {mapping:x?}")),
         }
     }
 
     #[rustfmt::skip]
     fn enter(&mut self, call: &Call, answer: Answer, memory: &[u64]) -> Result<(), String> {
         if !fits(call, answer) {
-            return Err("no answer to this call".to_owned());
+            return Err(NO_ANSWER.to_owned());
         }
         match (*call, answer) {
             (Call::Pvalidate { caller, gpa, hpa, .. }, Answer::Opened) => {
@@ -189,6 +218,66 @@ fn page_fits(request: &Request, reply: Reply) -> bool {
     }
 }
 
+/// Whether a request by virtual address may be refused like this. A walk only
+/// reads, so 10 comes from a call made at its end.
+fn walk_refusal_fits(request: &Request, reply: Reply) -> bool {
+    let (number, reason) = match reply {
+        Reply::Mapping(Err(refusal)) => (refusal.number(), refusal.reason()),
+        Reply::Reached(Reached {
+            answer: Answer::Refused { number, reason },
+            gpa: 0,
+        }) => (number, reason),
+        _ => return false,
+    };
+    let met_by_reads = matches!(
+        (number, reason),
+        (1..=4 | 6..=9 | 12 | 13 | 18 | 19, 0) | (5, 1..=4)
+    );
+    match (request, reply) {
+        (Request::Walk(_), Reply::Mapping(_)) => met_by_reads,
+        (Request::ReadVa { .. }, Reply::Reached(_)) => met_by_reads,
+        (Request::PvalidateVa { .. } | Request::WriteVa { .. }, Reply::Reached(_)) => {
+            met_by_reads || (number, reason) == (10, 0)
+        }
+        _ => false,
+    }
+}
+
+/// The virtual address that a request names, if it names one.
+fn virtual_address(request: &Request) -> Option<Virtual> {
+    match *request {
+        Request::Walk(at)
+        | Request::PvalidateVa { at, .. }
+        | Request::ReadVa { at, .. }
+        | Request::WriteVa { at, .. } => Some(at),
+        _ => None,
+    }
+}
+
+/// The call of document 01 that a request by virtual address makes where its
+/// walk led, if it makes one.
+#[rustfmt::skip]
+fn call_at(request: &Request, mapping: Mapping) -> Option<Call> {
+    let Mapping { gpa, hpa, gtype, ntype } = mapping;
+    match *request {
+        Request::PvalidateVa { at: Virtual { caller, .. }, kind } =>
+            Some(Call::Pvalidate { caller, gpa, hpa, kind }),
+        Request::ReadVa { at: Virtual { caller, .. }, index } =>
+            Some(Call::Read { caller, gpa, hpa, gtype, ntype, index }),
+        Request::WriteVa { at: Virtual { caller, .. }, index, value } =>
+            Some(Call::Write { caller, gpa, hpa, gtype, ntype, index, value }),
+        _ => None,
+    }
+}
+
+/// Where the virtual address of an accepted request leads.
+#[rustfmt::skip]
+fn walked(at: Virtual, table: &[u64], memory: &[u64]) -> Result<Mapping, String> {
+    let Virtual { caller, root, root_type, host_root, va } = at;
+    walk(table, memory, caller, root, root_type, host_root, va)
+        .map_err(|refusal| format!("the walk is refused with {}", refusal.number()))
+}
+
 /// The number of places of every guest and address that has one. An error if
 /// an entry or a leaf is broken, as no history makes one.
 fn count_places(table: &[u64], memory: &[u64]) -> Result<BTreeMap<Holding, u64>, String> {
@@ -235,6 +324,7 @@ fn frame_at(memory: &[u64], hpa: u64) -> Option<&[u64; FRAME_WORDS]> {
 #[cfg(test)]
 mod tests {
     use super::*;
+    use crate::layout::Reason;
     use crate::script::parse;
 
     /// A table, a memory and the ledger of the calls made on them.
@@ -258,9 +348,9 @@ mod tests {
         }
 
         fn request(&mut self, request: &Request) -> Result<(), String> {
-            let before = self.memory;
+            let [table, memory] = [self.table.to_vec(), self.memory.to_vec()];
             let reply = request.make(&mut self.table, &mut self.memory);
-            self.ledger.note_request(request, reply, &before)?;
+            self.ledger.note_request(request, reply, &table, &memory)?;
             self.ledger.places(&self.table, &self.memory)
         }
 
@@ -518,7 +608,7 @@ mod tests {
         for request in page_requests(gpa, 0x2000, 0) {
             let reads = matches!(request, Request::PageRead { .. });
             let check = |reply, fits: bool| {
-                let noted = Ledger::new().note_request(&request, reply, &[]);
+                let noted = Ledger::new().note_request(&request, reply, &[], &[]);
                 assert_eq!(noted.is_ok(), fits, "{reply:?}");
             };
             for (number, reason) in (0..=18).flat_map(|number| (0..=5).map(move |r| (number, r))) {
@@ -551,9 +641,316 @@ mod tests {
     fn a_page_is_no_answer_to_the_nine_calls() {
         let call = Request::Call(parse(b"R 0 0 1000 0 0 0").unwrap());
         let mut ledger = Ledger::new();
-        let mut note = |reply| ledger.note_request(&call, reply, &[]);
+        let mut note = |reply| ledger.note_request(&call, reply, &[], &[]);
         assert!(note(Reply::Answer(Answer::Word(0))).is_ok());
         assert!(note(Reply::Page(&[])).is_err());
         assert!(note(Reply::Page(&[0; FRAME_WORDS])).is_err());
+    }
+
+    /// Guest 7's table at 10000 in frame 1 and the host's table in frame 8,
+    /// each of which serves for all four levels. The page at 50000 is mapped to
+    /// frame 2, the one at 60000 to frame 4.
+    const MAPPED: [&str; 9] = [
+        "U 0 1000 10000 7 1",
+        "V 7 10000 1000 1",
+        "W 7 10000 1000 1 1 0 10000000010001",
+        "W 7 10000 1000 1 1 50 20000000050001",
+        "W 7 10000 1000 1 1 60 60001",
+        "W 0 0 8000 0 0 0 8001",
+        "W 0 0 8000 0 0 10 10000000001001",
+        "W 0 0 8000 0 0 50 20000000002001",
+        "W 0 0 8000 0 0 60 4001",
+    ];
+
+    const AT: Virtual = Virtual {
+        caller: 7,
+        root: 0x10000,
+        root_type: 1,
+        host_root: 0x8000,
+        va: 0x50000,
+    };
+
+    const OPEN: Request = Request::PvalidateVa { at: AT, kind: 2 };
+    const READ: Request = Request::ReadVa { at: AT, index: 3 };
+
+    fn write_request(value: u64) -> Request {
+        Request::WriteVa {
+            at: AT,
+            index: 3,
+            value,
+        }
+    }
+
+    fn reached(answer: Answer, gpa: u64) -> Reply<'static> {
+        Reply::Reached(Reached { answer, gpa })
+    }
+
+    impl Run {
+        /// Makes a request that is answered like this and noted without error.
+        fn check(&mut self, request: &Request, reply: Reply) {
+            let made = request.make(&mut self.table.clone(), &mut self.memory.clone()) == reply;
+            assert!(made, "{request:x?} {reply:x?}");
+            assert_eq!(self.request(request), Ok(()));
+        }
+
+        /// Notes a reply to a request that is not made.
+        fn claim_request(&mut self, request: &Request, reply: Reply) -> Result<(), String> {
+            let Self {
+                table,
+                memory,
+                ledger,
+            } = self;
+            ledger.note_request(request, reply, table, memory)
+        }
+
+        /// Guest 7's page at 50000 is opened by its virtual address.
+        fn mapped() -> Self {
+            let mut run = Self::new();
+            run.make_all(&MAPPED);
+            run.make_all(&["U 0 2000 50000 7 2"]);
+            run.memory[2 * FRAME_WORDS + 3] = 0x55;
+            run.check(&OPEN, reached(Answer::Opened, 0x50000));
+            run
+        }
+    }
+
+    #[test]
+    fn calls_by_virtual_address_are_calls_where_the_walk_leads() {
+        let mut run = Run::mapped();
+        run.check(&OPEN, reached(Answer::Already, 0x50000));
+        run.check(&READ, reached(Answer::Word(0x55), 0x50000));
+        run.make_all(&["R 7 50000 2000 2 2 3"]);
+        run.check(&write_request(0x2a), reached(Answer::Done, 0x50000));
+        run.check(&READ, reached(Answer::Word(0x2a), 0x50000));
+        run.make_all(&["R 7 50000 2000 2 2 3", "W 7 50000 2000 2 2 3 2b"]);
+        run.check(&READ, reached(Answer::Word(0x2b), 0x50000));
+        // The page moves to frame 5; the host maps it there.
+        run.make_all(&["U 0 3000 0 0 3", "F 0 2000 3000"]);
+        run.check(&READ, reached(Answer::Word(0x2b), 0x50000));
+        run.check(&write_request(0x2c), reached(refused(10), 0));
+        run.make_all(&["D 0 2000 5000 7"]);
+        run.check(&READ, reached(refused(13), 0));
+        run.make_all(&["W 0 0 8000 0 0 50 20000000005001"]);
+        run.check(&READ, reached(Answer::Word(0x2b), 0x50000));
+        run.check(&write_request(0x2c), reached(Answer::Done, 0x50000));
+        run.make_all(&["R 7 50000 5000 2 2 3", "U 0 5000 50000 7 2"]);
+        run.check(&READ, reached(refused(9), 0));
+        // A second opening, by virtual address.
+        run.check(&OPEN, reached(Answer::Opened, 0x50000));
+        assert_eq!(run.ledger.accounts[&(7, 0x50000)].openings, 2);
+        assert_eq!(run.ledger.accounts[&(7, 0x50000)].closings, 1);
+    }
+
+    #[test]
+    fn a_walk_and_a_shared_page_enter_no_account() {
+        let mut run = Run::mapped();
+        let at = Virtual { va: 0x60000, ..AT };
+        let mapping = Mapping {
+            gpa: 0x60000,
+            hpa: 0x4000,
+            gtype: 0,
+            ntype: 0,
+        };
+        let [index, value] = [3, 0x77];
+        let writes = Request::WriteVa { at, index, value };
+        run.check(&Request::Walk(at), Reply::Mapping(Ok(mapping)));
+        run.check(&writes, reached(Answer::Done, 0x60000));
+        let reads = Request::ReadVa { at, index };
+        run.check(&reads, reached(Answer::Word(value), 0x60000));
+        run.memory[4 * FRAME_WORDS + 3] = 0x78; // the host's own write
+        run.check(&reads, reached(Answer::Word(0x78), 0x60000));
+        let openings = |gpa| run.ledger.accounts.get(&(7, gpa)).map(|a| a.openings);
+        assert_eq!([0x10000, 0x50000].map(openings), [Some(1); 2]);
+        assert_eq!(run.ledger.accounts.len(), 2);
+    }
+
+    #[test]
+    fn a_refused_call_by_virtual_address_enters_nothing() {
+        let mut run = Run::mapped();
+        run.make_all(&["W 0 0 8000 0 0 50 20000000002000"]);
+        for request in [&OPEN, &READ, &write_request(0x2a)] {
+            run.check(request, reached(refused(18), 0));
+        }
+        run.make_all(&["W 0 0 8000 0 0 50 20000000002001"]);
+        run.check(&READ, reached(Answer::Word(0x55), 0x50000));
+    }
+
+    #[test]
+    fn a_wrong_read_by_virtual_address_is_caught() {
+        let mut run = Run::mapped();
+        let word = |word| reached(Answer::Word(word), 0x50000);
+        assert!(run.claim_request(&READ, word(0x55)).is_ok());
+        assert!(run.claim_request(&READ, word(0x54)).is_err());
+        run.check(&write_request(0x2a), reached(Answer::Done, 0x50000));
+        assert!(run.claim_request(&READ, word(0x2a)).is_ok());
+        assert!(run.claim_request(&READ, word(0x55)).is_err());
+        // A claimed write and a claimed opening count.
+        let done = reached(Answer::Done, 0x50000);
+        assert!(run.claim_request(&write_request(0x2b), done).is_ok());
+        assert!(run.claim_request(&READ, word(0x2a)).is_err());
+        let opened = reached(Answer::Opened, 0x50000);
+        assert!(run.claim_request(&OPEN, opened).is_ok());
+        assert!(run.ledger.places(&run.table, &run.memory).is_err());
+    }
+
+    #[test]
+    fn another_guest_address_than_the_walks_is_caught() {
+        let mut run = Run::mapped();
+        for gpa in [0, 0x10000, 0x51000, 0x50001] {
+            for (request, answer) in [
+                (&OPEN, Answer::Already),
+                (&OPEN, Answer::Opened),
+                (&READ, Answer::Word(0x55)),
+                (&write_request(0x2a), Answer::Done),
+            ] {
+                let claimed = run.claim_request(request, reached(answer, gpa));
+                assert!(claimed.is_err(), "{request:x?} {gpa:x}");
+            }
+        }
+        let mapping = Mapping {
+            gpa: 0x50000,
+            hpa: 0x2000,
+            gtype: 2,
+            ntype: 2,
+        };
+        let mut claim =
+            |mapping| run.claim_request(&Request::Walk(AT), Reply::Mapping(Ok(mapping)));
+        assert!(claim(mapping).is_ok());
+        let [gpa, hpa, gtype, ntype] = [0x51000, 0x3000, 1, 1];
+        assert!(claim(Mapping { gpa, ..mapping }).is_err());
+        assert!(claim(Mapping { hpa, ..mapping }).is_err());
+        assert!(claim(Mapping { gtype, ..mapping }).is_err());
+        assert!(claim(Mapping { ntype, ..mapping }).is_err());
+    }
+
+    #[test]
+    fn an_accepted_reply_to_a_refused_walk_is_caught() {
+        let mut run = Run::mapped();
+        run.make_all(&["W 0 0 8000 0 0 50 20000000002000"]);
+        let mapping = Mapping {
+            gpa: 0x50000,
+            hpa: 0x2000,
+            gtype: 2,
+            ntype: 2,
+        };
+        for gpa in [0, 0x50000] {
+            for (request, reply) in [
+                (&OPEN, reached(Answer::Already, gpa)),
+                (&READ, reached(Answer::Word(0x55), gpa)),
+                (&write_request(0x2a), reached(Answer::Done, gpa)),
+                (&Request::Walk(AT), Reply::Mapping(Ok(mapping))),
+            ] {
+                let claimed = run.claim_request(request, reply);
+                assert!(claimed.is_err(), "{request:x?} {gpa:x}");
+            }
+        }
+    }
+
+    #[test]
+    fn a_wrong_answer_by_virtual_address_is_caught() {
+        use Answer::{Already, Closed, Count, Done, None, Opened, Unfixed, Word};
+        let [asid, gpa] = [7, 0x50000];
+        let mut run = Run::mapped();
+        let page = Request::PageCheck {
+            caller: 7,
+            gpa,
+            hpa: 0x9000,
+        };
+        let call = Request::Call(parse(b"R 0 0 9000 0 0 3").unwrap());
+        let requests = [
+            &OPEN,
+            &READ,
+            &write_request(0),
+            &Request::Walk(AT),
+            &page,
+            &call,
+        ];
+        for (answer, fits) in [
+            (None, [false; 3]),
+            (Closed { asid, gpa }, [false; 3]),
+            (Opened, [true, false, false]),
+            (Already, [true, false, false]),
+            (Unfixed { asid }, [false; 3]),
+            (Word(0x55), [false, true, false]),
+            (Count(0), [false; 3]),
+            (Done, [false, false, true]),
+        ] {
+            for (request, fits) in requests.into_iter().zip(fits.into_iter().chain([false; 3])) {
+                let claimed = run.claim_request(request, reached(answer, gpa));
+                assert_eq!(claimed.is_ok(), fits, "{request:x?} {answer:x?}");
+            }
+            for request in &requests[..4] {
+                assert!(run.claim_request(request, Reply::Answer(answer)).is_err());
+                assert!(run.claim_request(request, Reply::Page(&[])).is_err());
+            }
+        }
+    }
+
+    #[test]
+    fn refusals_by_virtual_address() {
+        let mut run = Run::mapped();
+        // The walk leads to guest address 0, so an accepted reply names it too.
+        run.make_all(&["W 7 10000 1000 1 1 50 1"]);
+        run.check(&READ, reached(Answer::Word(0x8000 / 8 + 3), 0));
+        for (number, reason) in (0..=20).flat_map(|number| (0..=5).map(move |r| (number, r))) {
+            let met_by_reads = match number {
+                1..=4 | 6..=9 | 12 | 13 | 18 | 19 => reason == 0,
+                5 => reason != 0 && reason != 5,
+                _ => false,
+            };
+            let or_fixed = met_by_reads || (number, reason) == (10, 0);
+            let answer = Answer::Refused { number, reason };
+            for (request, fits) in [
+                (&OPEN, or_fixed),
+                (&READ, met_by_reads),
+                (&write_request(0), or_fixed),
+                (&Request::Walk(AT), false),
+            ] {
+                let claimed = run.claim_request(request, reached(answer, 0));
+                assert_eq!(claimed.is_ok(), fits, "{request:x?} {answer:x?}");
+                // A refusal names no guest address, and comes with the address.
+                let named = run.claim_request(request, reached(answer, 0x50000));
+                assert!(named.is_err(), "{answer:?}");
+                let bare = run.claim_request(request, Reply::Answer(answer));
+                assert!(bare.is_err(), "{answer:?}");
+            }
+        }
+    }
+
+    #[test]
+    fn refusals_of_a_walk() {
+        use crate::call::Refusal::*;
+        let mut run = Run::mapped();
+        let reasons = [
+            Reason::SpareBits,
+            Reason::Asid,
+            Reason::Flags,
+            Reason::Address,
+        ];
+        #[rustfmt::skip]
+        let given = [
+            Geometry, Argument, Caller, Outside, Type, Owner, Address, NotValidated,
+            BrokenLeaf, NoPlace, AbsentEntry, LargePage,
+        ];
+        let never = [
+            Fixed,
+            NotFixed,
+            PlaceTaken,
+            LeafInUse,
+            Contents,
+            StillShared,
+        ];
+        let refusals = given.into_iter().chain(reasons.map(BadEntry));
+        for (refusal, fits) in refusals
+            .map(|refusal| (refusal, true))
+            .chain(never.map(|refusal| (refusal, false)))
+        {
+            let reply = Reply::Mapping(Err(refusal));
+            let claimed = run.claim_request(&Request::Walk(AT), reply);
+            assert_eq!(claimed.is_ok(), fits, "{refusal:?}");
+            for request in [&OPEN, &READ, &write_request(0)] {
+                assert!(run.claim_request(request, reply).is_err());
+            }
+        }
     }
 }

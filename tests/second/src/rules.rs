@@ -60,10 +60,7 @@ pub fn pvalidate(
         geometry(table, memory)?;
         require(is_asid(caller), Refusal::Argument)?;
         require(is_address(gpa) && is_address(hpa), Refusal::Argument)?;
-        let kind = match Kind::from_number(kind) {
-            Some(kind @ (Kind::Private | Kind::Mergeable)) => kind,
-            _ => return Err(Refusal::Argument),
-        };
+        let kind = validated_kind(kind)?;
         require(caller != HOST, Refusal::Caller)?;
         let frame = table_frame(table, hpa)?;
         let page = entry(table, frame)?;
@@ -82,6 +79,15 @@ pub fn pvalidate(
         set_entry(table, frame, validated);
         Ok(Answer::Opened)
     })
+}
+
+/// The types that PVALIDATE takes.
+#[inline]
+pub(crate) fn validated_kind(number: u64) -> Result<Kind, Refusal> {
+    match Kind::from_number(number) {
+        Some(kind @ (Kind::Private | Kind::Mergeable)) => Ok(kind),
+        _ => Err(Refusal::Argument),
+    }
 }
 
 /// PFIX: the host fixes a validated mergeable page and gives it a leaf.

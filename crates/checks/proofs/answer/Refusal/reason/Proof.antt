@@ -10,14 +10,14 @@ use Rattle.checks.specs.Answer.{means}
 use Rattle.checks.specs.declared.answer.Refusal.{Refusal}
 use Rattle.checks.specs.declared.answer.Refusal.the-variants.{Geometry, Argument, Caller, Outside, BadEntry, PageType, Owner}
 use Rattle.checks.specs.declared.answer.Refusal.the-variants.{Address, NotValidated, Fixed, NotFixed, BrokenLeaf, NoPlace}
-use Rattle.checks.specs.declared.answer.Refusal.the-variants.{PlaceTaken, LeafInUse, Contents, StillShared}
+use Rattle.checks.specs.declared.answer.Refusal.the-variants.{PlaceTaken, LeafInUse, Contents, StillShared, AbsentEntry, LargePage}
 use Rattle.checks.proofs.answer.Refusal.{the-type}
 use Rattle.checks.proofs.answer.Refusal.reason.Statement.{statement}
 use Rattle.checks.proofs.answer.Refusal.reason.Tie as tie
 
 -- the positions of all variants but `BadEntry`, which is at 4
 abbrev others : List ℕ
-others = 0 ∷ 1 ∷ 2 ∷ 3 ∷ 5 ∷ 6 ∷ 7 ∷ 8 ∷ 9 ∷ 10 ∷ 11 ∷ 12 ∷ 13 ∷ 14 ∷ 15 ∷ 16 ∷ []
+others = 0 ∷ 1 ∷ 2 ∷ 3 ∷ 5 ∷ 6 ∷ 7 ∷ 8 ∷ 9 ∷ 10 ∷ 11 ∷ 12 ∷ 13 ∷ 14 ∷ 15 ∷ 16 ∷ 17 ∷ 18 ∷ []
 
 no-reason : (r : Refusal) → OneOf others (tagOf the-type r) → 0 ≡ means r .reason
 no-reason Geometry h = refl
@@ -37,6 +37,8 @@ no-reason PlaceTaken h = refl
 no-reason LeafInUse h = refl
 no-reason Contents h = refl
 no-reason StillShared h = refl
+no-reason AbsentEntry h = refl
+no-reason LargePage h = refl
 
 enum-known-self : tie.Need-enum-known-self
 enum-known-self c = search needs

@@ -1,0 +1,6 @@
+-- Laws of walks, and the worked ones.
+pub mod Examples
+pub mod IndexLaws
+pub mod MetLaws
+pub mod Traced
+pub mod WalkLaws

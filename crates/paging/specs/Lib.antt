@@ -1,0 +1,5 @@
+-- 02, Q-4: page tables and their walk, above the rules of paper 01.
+pub mod Entry
+pub mod Examples
+pub mod Met
+pub mod Walk

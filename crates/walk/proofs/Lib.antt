@@ -1,0 +1,2 @@
+-- A walk behind a chain of checks.
+pub mod GateLaws

@@ -1,0 +1,2 @@
+-- What the code's walks come to.
+pub mod Walked
