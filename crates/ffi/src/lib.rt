@@ -1,32 +1,21 @@
-// The nine calls, the two of whole pages that answer a number, the walk, and the calls by virtual address, for C and for Rust: each hands
-// its arguments on and its answer back as a struct of numbers. `include/skorbilek.h` declares them. A slice is a pointer and then a length, in words, on the other side.
+// The nine calls, and the two of whole pages that answer a number, for C and for Rust: each hands its arguments on and its answer back as a
+// struct of numbers. `include/skorbilek.h` declares them. A slice is a pointer and then a length, in words, on the other side.
 // Each promises two things: what it returns and leaves is the rule's outcome, flattened; and it is a request of a run, so that demand 3 is
 // kept by every run of them.
 ghost use mathlib.Core.Path.{_≡_};
-ghost use mathlib.Core.Bool.{true};
 ghost use Rattle.rules.specs.Access.{read, write};
 ghost use Rattle.rules.specs.Assignment.{rmpupdate, pvalidate};
 ghost use Rattle.rules.specs.Calls.{RMPUPDATE, PVALIDATE, PFIX, PMERGE, PUNMERGE, PUNFIX, READ, WRITE, CENSUS};
 ghost use Rattle.rules.specs.Census.{census};
 ghost use Rattle.rules.specs.Merging.{pfix, pmerge, punmerge, punfix};
 ghost use Rattle.rules.specs.State.{state};
-ghost use Rattle.paging.specs.Walk.{virtual, translated};
 ghost use Rattle.requests.specs.Asked.{asked};
 ghost use Rattle.requests.specs.Pages.{pageCheck, pageWrite};
-ghost use Rattle.requests.specs.Requests.{CALL, PAGE-WRITE, PAGE-CHECK, WALK, BY-VA, telling, respond};
+ghost use Rattle.requests.specs.Requests.{CALL, PAGE-WRITE, PAGE-CHECK, telling};
 ghost use Rattle.requests.specs.Run.{Ruled};
-ghost use Rattle.requests.specs.Virtual.{VALIDATE, LOAD, STORE};
 ghost use Rattle.flat.specs.Flat.{returned, flattened, said};
-ghost use Rattle.flat.specs.Virtual.{flatMapping, saidMapping, flattenedReply, saidNamed};
-use checks::answer::Answer;
-use entries::entry::is_owned;
 use flat::Flat;
 use flat::flatten;
-use flat::virtual_address::FlatMapping;
-use flat::virtual_address::flatten_mapping;
-use flat::virtual_address::name;
-use walk::begin::translate;
-use walk::guest::Mapped;
 
 #[no_mangle]
 pub extern "C" fn skorbilek_rmpupdate(
@@ -207,149 +196,4 @@ pub extern "C" fn skorbilek_page_write(
         (telling (said r (now (table .entry)) (now (memory .exit))))) ⌝ }
 {
     flatten(pages::page_write(table, memory, caller, gpa, hpa, words))
-}
-
-#[no_mangle]
-pub extern "C" fn skorbilek_walk(
-    table: &[u64],
-    memory: &[u64],
-    caller: u64,
-    root: u64,
-    root_type: u64,
-    host_root: u64,
-    va: u64,
-) -> FlatMapping
-    ensures { λ r. ⌜ r
-        ≡ flatMapping (translated (state (now (table .entry)) (now (memory .entry))) (virtual caller root «root_type» «host_root» va) true) ⌝ }
-    ensures { λ r. ⌜ Ruled (asked (WALK (virtual caller root «root_type» «host_root» va)) (state (now (table .entry)) (now (memory .entry)))
-        (saidMapping r (now (table .entry)) (now (memory .entry)))) ⌝ }
-{
-    flatten_mapping(translate(table, memory, caller, root, root_type, host_root, va, true))
-}
-
-// The calls by virtual address are the exported calls on what the walk yields: as calls of `monitor` with a second caller, READ, WRITE and
-// PVALIDATE would no longer be compiled into their own exported functions.
-#[no_mangle]
-pub extern "C" fn skorbilek_pvalidate_va(
-    table: &mut [u64],
-    memory: &[u64],
-    caller: u64,
-    root: u64,
-    root_type: u64,
-    host_root: u64,
-    va: u64,
-    kind: u64,
-) -> Flat
-    ensures { λ r. ⌜ returned r (now (table .exit)) (now (memory .entry))
-        ≡ flattenedReply (respond (state (now (table .entry)) (now (memory .entry))) (BY-VA (virtual caller root «root_type» «host_root» va) (VALIDATE kind))) ⌝ }
-    ensures { λ r. ⌜ Ruled (asked (BY-VA (virtual caller root «root_type» «host_root» va) (VALIDATE kind)) (state (now (table .entry)) (now (memory .entry)))
-        (saidNamed r (now (table .exit)) (now (memory .entry)))) ⌝ }
-{
-    let found = translate(
-        table,
-        memory,
-        caller,
-        root,
-        root_type,
-        host_root,
-        va,
-        is_owned(kind),
-    );
-    match found {
-        Mapped::To(at) => {
-            let answer = skorbilek_pvalidate(table, memory, caller, at.gpa, at.hpa, kind);
-            name(answer, at.gpa)
-        }
-        Mapped::Stops(refusal) => flatten(Answer::Refused(refusal)),
-    }
-}
-
-#[no_mangle]
-pub extern "C" fn skorbilek_read_va(
-    table: &[u64],
-    memory: &[u64],
-    caller: u64,
-    root: u64,
-    root_type: u64,
-    host_root: u64,
-    va: u64,
-    index: u64,
-) -> Flat
-    ensures { λ r. ⌜ returned r (now (table .entry)) (now (memory .entry))
-        ≡ flattenedReply (respond (state (now (table .entry)) (now (memory .entry))) (BY-VA (virtual caller root «root_type» «host_root» va) (LOAD index))) ⌝ }
-    ensures { λ r. ⌜ Ruled (asked (BY-VA (virtual caller root «root_type» «host_root» va) (LOAD index)) (state (now (table .entry)) (now (memory .entry)))
-        (saidNamed r (now (table .entry)) (now (memory .entry)))) ⌝ }
-{
-    let found = translate(
-        table,
-        memory,
-        caller,
-        root,
-        root_type,
-        host_root,
-        va,
-        index <= 511,
-    );
-    match found {
-        Mapped::To(at) => {
-            let answer = skorbilek_read(
-                table,
-                memory,
-                caller,
-                at.gpa,
-                at.hpa,
-                at.gtype,
-                at.ntype,
-                index,
-            );
-            name(answer, at.gpa)
-        }
-        Mapped::Stops(refusal) => flatten(Answer::Refused(refusal)),
-    }
-}
-
-#[no_mangle]
-pub extern "C" fn skorbilek_write_va(
-    table: &[u64],
-    memory: &mut [u64],
-    caller: u64,
-    root: u64,
-    root_type: u64,
-    host_root: u64,
-    va: u64,
-    index: u64,
-    value: u64,
-) -> Flat
-    ensures { λ r. ⌜ returned r (now (table .entry)) (now (memory .exit))
-        ≡ flattenedReply (respond (state (now (table .entry)) (now (memory .entry))) (BY-VA (virtual caller root «root_type» «host_root» va) (STORE index value))) ⌝ }
-    ensures { λ r. ⌜ Ruled (asked (BY-VA (virtual caller root «root_type» «host_root» va) (STORE index value)) (state (now (table .entry)) (now (memory .entry)))
-        (saidNamed r (now (table .entry)) (now (memory .exit)))) ⌝ }
-{
-    let found = translate(
-        table,
-        memory,
-        caller,
-        root,
-        root_type,
-        host_root,
-        va,
-        index <= 511,
-    );
-    match found {
-        Mapped::To(at) => {
-            let answer = skorbilek_write(
-                table,
-                memory,
-                caller,
-                at.gpa,
-                at.hpa,
-                at.gtype,
-                at.ntype,
-                index,
-                value,
-            );
-            name(answer, at.gpa)
-        }
-        Mapped::Stops(refusal) => flatten(Answer::Refused(refusal)),
-    }
 }

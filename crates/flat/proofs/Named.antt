@@ -5,8 +5,8 @@ use mathlib.Core.Path.{_≡_, refl, ap, _∙_}
 use mathlib.Core.List.{List}
 use Prim.Native.Nat.{ℕ}
 use Rattle.words.specs.Choice.{pick, _or_}
-use Rattle.rules.specs.Answers.{refused, done, none, closed, opened, already, unfixed, word, count, Outcome, outcome}
-use Rattle.rules.specs.State.{State}
+use Rattle.rules.specs.Answers.{Told, refused, done, none, closed, opened, already, unfixed, word, count, Outcome, outcome}
+use Rattle.rules.specs.State.{State, state}
 use Rattle.checks.specs.Answer.{means}
 use Rattle.checks.specs.declared.answer.Refusal.{Refusal}
 use Rattle.checks.specs.declared.answer.Refusal.the-variants.{Geometry, Argument, Caller, Outside, BadEntry, PageType, Owner, Address}
@@ -17,7 +17,7 @@ use Rattle.requests.specs.Requests.{response, telling, mapped, named, naming}
 use Rattle.walk.specs.Walked as walk
 use Rattle.walk.specs.declared.guest.Mapped.{Mapped}
 use Rattle.walk.specs.declared.guest.Mapped.the-variants.{To, Stops}
-use Rattle.flat.specs.Flat.{flat, Returned, returned, flattened, says}
+use Rattle.flat.specs.Flat.{flat, returned, says}
 use Rattle.flat.specs.Virtual.{flatMapping, saysMapping, flatReply, mayName, nameIn, NameIsNamed, saysNamed, NamedSays, flattenedReply}
 use Rattle.flat.specs.Virtual.{saidNamed}
 use Rattle.flat.specs.declared.Flat.{Flat}
@@ -84,14 +84,13 @@ named-says gpa (count places) = refl
 
 -- 01's call on what the walk yields, with the guest address
 pub carried-named :
-    (gpa : ℕ) (o : Outcome) {answer r : Flat} {table memory : List ℕ} → returned answer table memory ≡ flattened o → r ≡ nameIn gpa answer
+    (gpa : ℕ) {told : Told} {answer r : Flat} {table memory : List ℕ} {o : Outcome} → outcome told (state table memory) ≡ o
+    → answer ≡ flat told → r ≡ nameIn gpa answer
     → (returned r table memory ≡ flattenedReply (naming gpa o)) × (saidNamed r table memory ≡ naming gpa o)
-unfolding flattened flattenedReply
-carried-named gpa o {r = r} given name-so =
-    let flat-so = ap (λ (x : Returned). x .answer) given in
-    let after-so = ap (λ (x : Returned). x .after) given in
-    let reply-so : r ≡ flatReply (named gpa (o .told)) = rw (name-so, flat-so) (name-is-named gpa (o .told)) in
-    (rw (reply-so, after-so), rw (reply-so, after-so, named-says gpa (o .told)))
+unfolding flattenedReply
+carried-named gpa {told} {r = r} given flat-so name-so =
+    let reply-so : r ≡ flatReply (named gpa told) = rw (name-so, flat-so) (name-is-named gpa told) in
+    (rw (← given, reply-so), rw (← given, reply-so, named-says gpa told))
 
 -- the walk's refusal
 pub carried-stop :

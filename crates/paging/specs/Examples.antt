@@ -63,6 +63,11 @@ merged =
     (table (0x0000000000000001 ∷ 0x0020000000001001 ∷ [])
     ++ (table (0x0020000000001001 ∷ []) ++ table (0 ∷ 0 ∷ 0 ∷ 0 ∷ 0 ∷ 0 ∷ 0 ∷ 0x1001 ∷ 0 ∷ 0x70001 ∷ [])))
 
+-- the host says MERGEABLE of frame 1, which is PRIVATE to the RMP and to the guest
+unfoldable pub otherType : State
+otherType =
+    state (box .table) (table (0x0000000000000001 ∷ 0x0020000000001001 ∷ []) ++ (table guestTable ++ table lowerTable))
+
 -- the host's table is in frame 1, which the RMP does not cover
 unfoldable pub above : State
 above = state (0x50007 ∷ 0x1000 ∷ []) (table guestTable ++ table (0x0000000000001001 ∷ 0x0010000000000001 ∷ []))
@@ -143,6 +148,7 @@ examples =
     ∷ refuses box (from 0x1000 0) 6
     ∷ finds box (virtual 7 0 0 0 0x1000) (mapping 0x1000 0x1000 1 1)
     ∷ refuses box (to 0x50000000000) 6
+    ∷ refuses otherType (from 0x1000 1) 6
     ∷ refuses box (to 0x48000000000) 6
     -- as the guest's own accesses
     ∷ refuses box (virtual 9 0x1000 1 0 0) 7

@@ -36,7 +36,8 @@ fn guest_down(
     frame: Pointer,
 ) -> Pointed
     ensures { λ r. ⌜ pointed r
-        ≡ onward (look (state (now (table .entry)) (now (memory .entry))) caller (from .address) (frame .address) (from .kind) (frame .kind) index)
+        ≡ onward (look (state (now (table .entry)) (now (memory .entry)))
+        caller (from .address) (frame .address) (from .kind) (frame .kind) index)
         (λ w. follow level true w) ⌝ }
 {
     let seen = guest_look(

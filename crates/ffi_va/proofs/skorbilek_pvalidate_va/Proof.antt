@@ -1,4 +1,4 @@
--- `ffi::skorbilek_pvalidate_va` meets its contract: PVALIDATE's own promise at what the walk yields, or the walk's refusal, carried through the
+-- `ffi_va::skorbilek_pvalidate_va` meets its contract: PVALIDATE's own promise at what the walk yields, or the walk's refusal, carried through the
 -- flattening, makes a request of a run.
 -- Assumes nothing.
 use borrow.Author.Needs.{needs}
@@ -6,8 +6,8 @@ use Rattle.rules.specs.Calls.{step}
 use Rattle.requests.specs.Requests.{byVirtual, respond}
 use Rattle.requests.specs.Virtual.{formFits, callOn}
 use Rattle.flat.proofs.Named.{carried-named, carried-stop}
-use Rattle.ffi.proofs.skorbilek_pvalidate_va.Statement.{statement}
-use Rattle.ffi.proofs.skorbilek_pvalidate_va.Tie as tie
+use Rattle.ffi_va.proofs.skorbilek_pvalidate_va.Statement.{statement}
+use Rattle.ffi_va.proofs.skorbilek_pvalidate_va.Tie as tie
 
 is-owned-requires : tie.Need-is-owned-requires
 is-owned-requires c κs = search needs
@@ -18,8 +18,11 @@ translate-requires c κs = search needs
 enum-known-found : tie.Need-enum-known-found
 enum-known-found c = search needs
 
-skorbilek-pvalidate-requires : tie.Need-skorbilek-pvalidate-requires
-skorbilek-pvalidate-requires c κs = search needs
+pvalidate-requires : tie.Need-pvalidate-requires
+pvalidate-requires c κs = search needs
+
+flatten-requires : tie.Need-flatten-requires
+flatten-requires c κs = search needs
 
 name-requires : tie.Need-name-requires
 name-requires c κs = search needs
@@ -27,8 +30,8 @@ name-requires c κs = search needs
 enum-known-found-2 : tie.Need-enum-known-found-2
 enum-known-found-2 c = search needs
 
-flatten-requires : tie.Need-flatten-requires
-flatten-requires c κs = search needs
+flatten-requires-2 : tie.Need-flatten-requires-2
+flatten-requires-2 c κs = search needs
 
 same-length : tie.Need-same-length
 same-length c = search needs
@@ -36,9 +39,9 @@ same-length c = search needs
 returns : tie.Need-returns
 unfolding respond byVirtual formFits callOn step
 returns c =
-    let at-call = c .before .before .before in let at-found = at-call .before .before .before in let at-walk = at-found .before .before in
+    let at-call = c .before .before .before .before in let at-found = at-call .before .before .before in let at-walk = at-found .before .before in
     rw (← at-walk .before .is-owned .ensures, ← at-walk .translate .ensures, at-found .found .given .1)
-    (carried-named _ _ (at-call .skorbilek-pvalidate .ensures .0) (c .name .ensures))
+    (carried-named _ (at-call .pvalidate .ensures) (c .before .flatten .ensures) (c .name .ensures))
 
 same-length-2 : tie.Need-same-length-2
 same-length-2 c = search needs
@@ -47,7 +50,7 @@ returns-2 : tie.Need-returns-2
 unfolding respond byVirtual formFits
 returns-2 c =
     let at-walk = c .before .before .before .before in
-    rw (← at-walk .before .is-owned .ensures, ← at-walk .translate .ensures, c .before .before .found2 .given .1) (carried-stop (c .before .before .found2 .given .0 .0) _ (c .flatten .ensures))
+    rw (← at-walk .before .is-owned .ensures, ← at-walk .translate .ensures, c .before .before .found2 .given .1) (carried-stop (c .before .before .found2 .given .0 .0) _ (c .flatten2 .ensures))
 
 pub skorbilek-pvalidate-va-spec : {M : Type 1} → statement M
-skorbilek-pvalidate-va-spec = tie.close (tie.spec is-owned-requires translate-requires enum-known-found skorbilek-pvalidate-requires name-requires enum-known-found-2 flatten-requires same-length returns same-length-2 returns-2)
+skorbilek-pvalidate-va-spec = tie.close (tie.spec is-owned-requires translate-requires enum-known-found pvalidate-requires flatten-requires name-requires enum-known-found-2 flatten-requires-2 same-length returns same-length-2 returns-2)

@@ -1,10 +1,10 @@
--- `ffi::skorbilek_walk` meets its contract: the walk's promise, carried through the flattening, makes a request of a run.
+-- `ffi_va::skorbilek_walk` meets its contract: the walk's promise, carried through the flattening, makes a request of a run.
 -- Assumes nothing.
 use borrow.Author.Needs.{needs}
 use Rattle.requests.specs.Requests.{respond}
 use Rattle.flat.proofs.Named.{carried-mapping}
-use Rattle.ffi.proofs.skorbilek_walk.Statement.{statement}
-use Rattle.ffi.proofs.skorbilek_walk.Tie as tie
+use Rattle.ffi_va.proofs.skorbilek_walk.Statement.{statement}
+use Rattle.ffi_va.proofs.skorbilek_walk.Tie as tie
 
 translate-requires : tie.Need-translate-requires
 translate-requires c κs = search needs
