@@ -28,7 +28,7 @@ function answered(answer) {
     print letter[name] " " answer > output
 }
 
-# the script has no letters for calls on whole pages, which stand last
+# the script has no letters for calls on whole pages and by virtual address, which stand last
 /^[0-9]+ +page_/ { exit }
 
 # a row of a table: number, call, answer, reason

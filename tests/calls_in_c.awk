@@ -14,7 +14,8 @@ function asked(number, call) {
     made = "(" number ", skorbilek_" call ", "
 }
 
-# `Refused, 2: ..`, `Closed { asid: 7, gpa: 0x40000 }`, `Word(0x2a)`, `&m[512*2..512*3]`, `Opened`, .. as what is expected
+# `Refused, 2: ..`, `Closed { asid: 7, gpa: 0x40000 }`, `Word(0x2a)`, `Word(0x2a) at 0x50000`, `&m[512*2..512*3]`, `Mapping { gpa: .. }`,
+# `Opened`, .. as what is expected
 function answered(said) {
     gsub(/`/, "", said)
     sub(/^ +/, "", said)
@@ -26,11 +27,29 @@ function answered(said) {
         print "hands" made (said == "" ? "NULL" : "m + " said) ");"
         return
     }
+    if (said ~ /^Mapping /) {
+        gsub(/ *[{}] *|^Mapping/, "", said)
+        gsub(/[a-z]+:/, ".&", said)
+        gsub(/:/, " =", said)
+        print "maps" made "(skorbilek_mapping){" said "});"
+        return
+    }
+    if (made ~ /skorbilek_walk/) {
+        sub(/^Refused, /, "", said)
+        sub(/:.*/, "", said)
+        print "maps" made "(skorbilek_mapping){.refusal = " said "});"
+        return
+    }
+    named = ""
+    if (match(said, / at 0x[0-9a-f]+$/)) {
+        named = ", .gpa = " substr(said, RSTART + 4)
+        said = substr(said, 1, RSTART - 1)
+    }
     if (said ~ /^Refused, /) { sub(/^Refused, /, "", said); sub(/:.*/, "", said); said = ".refusal = " said }
     else if (said ~ /^Closed /) { gsub(/ *[{}] *|:|^Closed/, "", said); gsub(/asid/, ".asid =", said); gsub(/gpa/, ".gpa =", said); said = ".kind = SKORBILEK_CLOSED, " said }
     else if (match(said, /\([^)]*\)/)) said = ".kind = SKORBILEK_" toupper(substr(said, 1, RSTART - 1)) (said ~ /^Unfixed/ ? ", .asid = " : ", .value = ") substr(said, RSTART + 1, RLENGTH - 2)
     else { sub(/:.*/, "", said); said = ".kind = SKORBILEK_" toupper(said) }
-    print "answers" made "(skorbilek_answer){" said "});"
+    print "answers" made "(skorbilek_answer){" said named "});"
 }
 
 /^\| [0-9]+ \| `[a-z_]+\(&/ {

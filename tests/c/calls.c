@@ -37,6 +37,11 @@ static void answers(int number, skorbilek_answer given, skorbilek_answer said)
     count(number, memcmp(&given, &said, sizeof given) == 0);
 }
 
+static void maps(int number, skorbilek_mapping given, skorbilek_mapping said)
+{
+    count(number, memcmp(&given, &said, sizeof given) == 0);
+}
+
 static void hands(int number, const uint64_t *given, const uint64_t *said)
 {
     count(number, given == said);

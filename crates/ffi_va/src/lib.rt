@@ -2,8 +2,8 @@
 // call by virtual address is PVALIDATE, READ or WRITE on what the walk yields. Each promises two things: what it returns and leaves is the
 // rule's reply, flattened; and it is a request of a run, so that demand 3 is kept by every run of them.
 //
-// They are built apart from the other exported functions (`ffi`), and put into one archive with them: in one build PVALIDATE, READ and WRITE
-// would have two callers each, and would be compiled into neither.
+// They are built apart from the other exported functions (`ffi`), and put into one archive with them: in one build PVALIDATE, READ and
+// WRITE would have two callers each, and would be compiled into neither.
 ghost use mathlib.Core.Path.{_≡_};
 ghost use mathlib.Core.Bool.{true};
 ghost use Rattle.rules.specs.State.{state};

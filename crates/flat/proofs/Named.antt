@@ -18,8 +18,8 @@ use Rattle.walk.specs.Walked as walk
 use Rattle.walk.specs.declared.guest.Mapped.{Mapped}
 use Rattle.walk.specs.declared.guest.Mapped.the-variants.{To, Stops}
 use Rattle.flat.specs.Flat.{flat, returned, says}
-use Rattle.flat.specs.Virtual.{flatMapping, saysMapping, flatReply, mayName, nameIn, NameIsNamed, saysNamed, NamedSays, flattenedReply}
-use Rattle.flat.specs.Virtual.{saidNamed}
+use Rattle.flat.specs.Virtual.{flatMapping, saysMapping, flatReply, mayName, nameIn, NameIsNamed, saysNamed, NamedSays}
+use Rattle.flat.specs.Virtual.{flattenedReply, saidNamed}
 use Rattle.flat.specs.declared.Flat.{Flat}
 use Rattle.flat.specs.declared.virtual_address.FlatMapping.{FlatMapping}
 

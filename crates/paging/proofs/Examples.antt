@@ -15,16 +15,16 @@ use Rattle.rules.specs.Arguments.{isHost, accessArguments, mayAccess}
 use Rattle.rules.specs.Leaves.{leafFrame, isLeaf, consulted, placed}
 use Rattle.rules.specs.State.{N, M, sized, covers, entryAt, wordAt}
 use Rattle.paging.specs.Entry.{isPresent, isLarge, addressOf, typeOf, pageOf, indexAt, isVirtual}
-use Rattle.paging.specs.Examples.{table, hostTable, guestTable, lowerTable, box, halfEntry, badHost, badGuest, merged, otherType, above}
-use Rattle.paging.specs.Examples.{Example, examples}
+use Rattle.paging.specs.Examples.{table, hostTable, guestTable, lowerTable, box, halfEntry, badHost, badGuest, merged}
+use Rattle.paging.specs.Examples.{otherType, above, Example, examples}
 use Rattle.paging.specs.Walk.{onward, provided, follow, down, walk, letThrough, look, hostReads, atLast, hostWalk, hostHalf}
 use Rattle.paging.specs.Walk.{guestReads, always, guestWalk, walked, virtualArguments, translated}
 
 pub walks-as-worked :
     map (λ (x : Example). translated (x .state) (x .at) true) examples ≡ map (λ (x : Example). x .comes-to) examples
 unfolding pick _and_ _or_ frameCount isFramed wordIn isAddress frameOf isParty isGuest isOwned isUnowned entry asidFits flagsFit
-    addressFits rule byRules fields decoded leafWord covered isWhole entryIn unfixedAccess fixedAccess coveredAccess access unless when begins entered
-    isHost accessArguments mayAccess leafFrame isLeaf consulted placed N M sized covers entryAt wordAt
+    addressFits rule byRules fields decoded leafWord covered isWhole entryIn unfixedAccess fixedAccess coveredAccess access unless when
+    begins entered isHost accessArguments mayAccess leafFrame isLeaf consulted placed N M sized covers entryAt wordAt
     isPresent isLarge addressOf typeOf pageOf indexAt isVirtual onward provided follow down walk letThrough look hostReads atLast hostWalk
     hostHalf guestReads always guestWalk walked virtualArguments translated
     examples table hostTable guestTable lowerTable box halfEntry badHost badGuest merged otherType above

@@ -27,8 +27,12 @@ module _ (P : ℕ → Type 0) (at-1 : P 1) (at-2 : P 2) (at-3 : P 3) (at-4 : P 4
 module _ (page : ℕ) where
   pub top-index : (level : ℕ) → 0 < level → level ≤ 4 → shifted level page / 0x8000000 ≡ indexAt (level - 1) page
   unfolding shifted indexAt
-  top-index = one-of-four (λ level. shifted level page / 0x8000000 ≡ indexAt (level - 1) page) (omega arith) (omega arith) (omega arith) (omega arith)
+  top-index =
+      one-of-four (λ level. shifted level page / 0x8000000 ≡ indexAt (level - 1) page)
+      (omega arith) (omega arith) (omega arith) (omega arith)
 
   pub shift-on : (level : ℕ) → 0 < level → level ≤ 4 → shifted level page % 0x8000000 * 512 ≡ shifted (level - 1) page
   unfolding shifted
-  shift-on = one-of-four (λ level. shifted level page % 0x8000000 * 512 ≡ shifted (level - 1) page) (omega arith) (omega arith) (omega arith) (omega arith)
+  shift-on =
+      one-of-four (λ level. shifted level page % 0x8000000 * 512 ≡ shifted (level - 1) page)
+      (omega arith) (omega arith) (omega arith) (omega arith)

@@ -1,5 +1,5 @@
--- A walk and the frames that it meets. Where it reaches something, none of them is bad. Where it stops, it does so by a check of its own, or
--- because a read was refused, and then the refusal has its cause in the frames.
+-- A walk and the frames that it meets. Where it reaches something, none of them is bad. Where it stops, it does so by a check of its own,
+-- or because a read was refused, and then the refusal has its cause in the frames.
 -- Assumes nothing.
 use mathlib.Core.Path.{_≡_, refl, _∙_}
 use mathlib.Core.Bool.{Bool, true, false}
@@ -43,7 +43,8 @@ follow-own level leafRefused w = own-check 18 _ _ refl (own-check 19 _ _ refl (o
 
 module _ (s : State) where
   -- ---- frames before, where none is bad, and after
-  pub cause-before : {frames : List ℕ} (before : List ℕ) {r : Refusal} → firstReason s before ≡ 0 → Cause s frames r → Cause s (before ++ frames) r
+  pub cause-before :
+      {frames : List ℕ} (before : List ℕ) {r : Refusal} → firstReason s before ≡ 0 → Cause s frames r → Cause s (before ++ frames) r
   cause-before before none (plain o) = plain o
   cause-before before none (fault (bad-entry f reason inside here first)) =
       fault (bad-entry f reason inside here (none-before s before _ none ∙ first))
@@ -72,7 +73,8 @@ module _ (s : State) where
     traced-onward more rest (clear {found} none) on = traced-before frames none (on found)
     traced-onward more rest (caused why) on = caused (cause-after [] why)
 
-    traced-own : {w : Walked A} (rest : A → Walked B) → Traced s frames w → ((found : A) → Own (rest found)) → Traced s frames (onward w rest)
+    traced-own :
+        {w : Walked A} (rest : A → Walked B) → Traced s frames w → ((found : A) → Own (rest found)) → Traced s frames (onward w rest)
     unfolding onward
     traced-own rest (clear {found} none) own = by-own none (own found)
     traced-own rest (caused why) own = caused why
@@ -117,7 +119,9 @@ module _ (s : State) where
     unfolding down
     down-traced level index from = traced-own _ (traced from index) (λ w. follow-own level (leafRefused level) w)
 
-    walk-traced : (level page : ℕ) (from : Pointer) → Traced s (walkMet reads leafRefused met level page from) (walk reads leafRefused level page from)
+    walk-traced :
+        (level page : ℕ) (from : Pointer)
+        → Traced s (walkMet reads leafRefused met level page from) (walk reads leafRefused level page from)
     unfolding walk walkMet firstReason
     walk-traced zero page from = clear refl
     walk-traced (suc level) page from = traced-onward _ _ (down-traced level (indexAt level page) from) (walk-traced level page)
@@ -140,7 +144,8 @@ module _ (s : State) where
   unfolding framesMet walked guestWalk
   walked-traced at =
       traced-onward _ _
-      (walk-traced (guestReads s (at .caller) (at .hostRoot)) always (guestMet s (at .hostRoot)) (guest-traced (at .hostRoot) (at .caller)) 4 _ _)
+      (walk-traced (guestReads s (at .caller) (at .hostRoot)) always (guestMet s (at .hostRoot))
+      (guest-traced (at .hostRoot) (at .caller)) 4 _ _)
       (λ page. traced-own _ (host-traced (at .hostRoot) (page .address)) (λ frame. goes))
 
   pub translated-traced : (at : Virtual) (fits : Bool) → Traced s (framesMet s at) (translated s at fits)

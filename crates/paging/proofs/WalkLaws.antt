@@ -11,7 +11,8 @@ use Rattle.rules.specs.Refusals.{Refusal}
 use Rattle.rules.specs.State.{State}
 use Rattle.rules.proofs.Settled.{Settled, passes, refuses, Sane, access-settled}
 use Rattle.paging.specs.Entry.{pageOf, indexAt}
-use Rattle.paging.specs.Walk.{Walked, reaches, stops, onward, Pointer, pointer, follow, down, walk, letThrough, look, asRead, LookIsRead}
+use Rattle.paging.specs.Walk.{Walked, reaches, stops, onward, Pointer, pointer, follow, down, walk, letThrough, look}
+use Rattle.paging.specs.Walk.{asRead, LookIsRead}
 use Rattle.paging.specs.Walk.{hostHalf, guestReads, always, Virtual, guestWalk, Mapping, mapping, walked}
 use Rattle.paging.proofs.IndexLaws.{shifted, top-index}
 

@@ -1,5 +1,4 @@
--- What a walk reads: the frames of the words that it reads, in the order in which it meets them. What is claimed of them: a walk reads at
--- most 24 words, and a refusal on the way is a check's own, or has its cause in them.
+-- What a walk reads: the frames of the words that it reads, in the order in which it meets them; and that there are at most 24.
 use mathlib.Core.Bool.{Bool}
 use mathlib.Core.List.{List, [], _∷_, _++_}
 use Prim.Native.Nat.{ℕ, zero, suc, _≤_}
@@ -38,7 +37,8 @@ guestMet s hostRoot from = hostMet s hostRoot (from .address) ++ beyond (hostHal
 
 unfoldable pub framesMet : State → Virtual → List ℕ
 framesMet s at =
-    walkMet (guestReads s (at .caller) (at .hostRoot)) always (guestMet s (at .hostRoot)) 4 (pageOf (at .va)) (pointer (at .root) (at .rootType))
+    walkMet (guestReads s (at .caller) (at .hostRoot)) always (guestMet s (at .hostRoot)) 4
+    (pageOf (at .va)) (pointer (at .root) (at .rootType))
     ++ beyond (guestWalk s at) λ page. hostMet s (at .hostRoot) (page .address)
 
 -- five addresses through four levels of the host's, and four entries of the guest's

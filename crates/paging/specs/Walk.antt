@@ -34,8 +34,8 @@ abbrev pub pointer : ℕ → ℕ → Pointer
 pointer address type = record { address = address; type = type }
 
 -- ---- one walk for both tables
--- an entry: "absent entry 18; large page, or bit 7 set at the top level, 19; type LEAF 6", where LEAF is refused. At the last level bit 7 is
--- ignored.
+-- an entry: "absent entry 18; large page, or bit 7 set at the top level, 19; type LEAF 6", where LEAF is refused. At the last level bit 7
+-- is ignored.
 unfoldable pub follow : ℕ → Bool → ℕ → Walked Pointer
 follow level leafRefused w =
     provided (isPresent w) ABSENT-ENTRY

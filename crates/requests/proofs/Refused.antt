@@ -1,5 +1,5 @@
--- Why a request is refused: it has a cause as a call of 01 has, in the frames that it names or meets, or it is refused for its run, or on the
--- way of a walk. And so what the refusal carries.
+-- Why a request is refused: it has a cause as a call of 01 has, in the frames that it names or meets, or it is refused for its run, or on
+-- the way of a walk. And so what the refusal carries.
 -- Assumes nothing.
 use mathlib.Core.Path.{_≡_, refl, sym, ap, _∙_}
 use mathlib.Core.Bool.{true, false≢true}

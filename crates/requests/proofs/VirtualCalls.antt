@@ -48,7 +48,8 @@ accepted-named (by-read p) = λ gpa. refl
 accepted-named (by-write p) = λ gpa. refl
 accepted-named (by-census p) = tt
 
-form-named : {s after : State} {told : Told} (caller : ℕ) (form : Form) (m : Mapping) → Accepted s (callOn caller form m) told after → Named told
+form-named :
+    {s after : State} {told : Told} (caller : ℕ) (form : Form) (m : Mapping) → Accepted s (callOn caller form m) told after → Named told
 unfolding callOn
 form-named caller (VALIDATE type) m p = accepted-named p
 form-named caller (LOAD index) m p = accepted-named p

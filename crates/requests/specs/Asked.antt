@@ -1,5 +1,5 @@
--- 02, Q-1, "Demand 3 is unchanged, and its lists may hold these three calls too", and Q-4, "demand 3 counts it as 01's call there": lists of
--- requests, the calls of 01 that they count as, and what is claimed of them.
+-- 02, Q-1, "Demand 3 is unchanged, and its lists may hold these three calls too", and Q-4, "demand 3 counts it as 01's call there": lists
+-- of requests, the calls of 01 that they count as, and what is claimed of them.
 use mathlib.Core.Path.{_≡_}
 use mathlib.Core.List.{List, [], _∷_, _++_, map}
 use mathlib.Core.Logic.{_≢_}

@@ -1,5 +1,5 @@
--- `ffi_va::skorbilek_pvalidate_va` meets its contract: PVALIDATE's own promise at what the walk yields, or the walk's refusal, carried through the
--- flattening, makes a request of a run.
+-- `ffi_va::skorbilek_pvalidate_va` meets its contract: PVALIDATE's promise at what the walk yields, or the walk's refusal, carried through
+-- the flattening, makes a request of a run.
 -- Assumes nothing.
 use borrow.Author.Needs.{needs}
 use Rattle.rules.specs.Calls.{step}
@@ -39,7 +39,8 @@ same-length c = search needs
 returns : tie.Need-returns
 unfolding respond byVirtual formFits callOn step
 returns c =
-    let at-call = c .before .before .before .before in let at-found = at-call .before .before .before in let at-walk = at-found .before .before in
+    let at-call = c .before .before .before .before in let at-found = at-call .before .before .before in
+    let at-walk = at-found .before .before in
     rw (← at-walk .before .is-owned .ensures, ← at-walk .translate .ensures, at-found .found .given .1)
     (carried-named _ (at-call .pvalidate .ensures) (c .before .flatten .ensures) (c .name .ensures))
 
@@ -50,7 +51,22 @@ returns-2 : tie.Need-returns-2
 unfolding respond byVirtual formFits
 returns-2 c =
     let at-walk = c .before .before .before .before in
-    rw (← at-walk .before .is-owned .ensures, ← at-walk .translate .ensures, c .before .before .found2 .given .1) (carried-stop (c .before .before .found2 .given .0 .0) _ (c .flatten2 .ensures))
+    rw (← at-walk .before .is-owned .ensures, ← at-walk .translate .ensures, c .before .before .found2 .given .1)
+    (carried-stop (c .before .before .found2 .given .0 .0) _ (c .flatten2 .ensures))
 
 pub skorbilek-pvalidate-va-spec : {M : Type 1} → statement M
-skorbilek-pvalidate-va-spec = tie.close (tie.spec is-owned-requires translate-requires enum-known-found pvalidate-requires flatten-requires name-requires enum-known-found-2 flatten-requires-2 same-length returns same-length-2 returns-2)
+skorbilek-pvalidate-va-spec =
+    tie.close
+    (tie.spec
+    is-owned-requires
+    translate-requires
+    enum-known-found
+    pvalidate-requires
+    flatten-requires
+    name-requires
+    enum-known-found-2
+    flatten-requires-2
+    same-length
+    returns
+    same-length-2
+    returns-2)

@@ -1,5 +1,5 @@
--- `ffi_va::skorbilek_read_va` meets its contract: READ's own promise at what the walk yields, or the walk's refusal, carried through the
--- flattening, makes a request of a run.
+-- `ffi_va::skorbilek_read_va` meets its contract: READ's promise at what the walk yields, or the walk's refusal, carried through
+-- the flattening, makes a request of a run.
 -- Assumes nothing.
 use borrow.Author.Needs.{needs}
 use Rattle.rules.specs.Calls.{step}
@@ -41,7 +41,19 @@ returns-2 : tie.Need-returns-2
 unfolding respond byVirtual formFits
 returns-2 c =
     let at-walk = c .before .before .before .before in
-    rw (← at-walk .translate .ensures, c .before .before .found2 .given .1) (carried-stop (c .before .before .found2 .given .0 .0) _ (c .flatten2 .ensures))
+    rw (← at-walk .translate .ensures, c .before .before .found2 .given .1)
+    (carried-stop (c .before .before .found2 .given .0 .0) _ (c .flatten2 .ensures))
 
 pub skorbilek-read-va-spec : {M : Type 1} → statement M
-skorbilek-read-va-spec = tie.close (tie.spec translate-requires enum-known-found read-requires flatten-requires name-requires enum-known-found-2 flatten-requires-2 returns returns-2)
+skorbilek-read-va-spec =
+    tie.close
+    (tie.spec
+    translate-requires
+    enum-known-found
+    read-requires
+    flatten-requires
+    name-requires
+    enum-known-found-2
+    flatten-requires-2
+    returns
+    returns-2)

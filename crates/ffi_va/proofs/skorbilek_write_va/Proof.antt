@@ -1,5 +1,5 @@
--- `ffi_va::skorbilek_write_va` meets its contract: WRITE's own promise at what the walk yields, or the walk's refusal, carried through the
--- flattening, makes a request of a run.
+-- `ffi_va::skorbilek_write_va` meets its contract: WRITE's promise at what the walk yields, or the walk's refusal, carried through
+-- the flattening, makes a request of a run.
 -- Assumes nothing.
 use borrow.Author.Needs.{needs}
 use Rattle.rules.specs.Calls.{step}
@@ -36,7 +36,8 @@ same-length c = search needs
 returns : tie.Need-returns
 unfolding respond byVirtual formFits callOn step
 returns c =
-    let at-call = c .before .before .before .before in let at-found = at-call .before .before .before in let at-walk = at-found .before .before in
+    let at-call = c .before .before .before .before in let at-found = at-call .before .before .before in
+    let at-walk = at-found .before .before in
     rw (← at-walk .translate .ensures, at-found .found .given .1)
     (carried-named _ (at-call .write .ensures) (c .before .flatten .ensures) (c .name .ensures))
 
@@ -47,7 +48,21 @@ returns-2 : tie.Need-returns-2
 unfolding respond byVirtual formFits
 returns-2 c =
     let at-walk = c .before .before .before .before in
-    rw (← at-walk .translate .ensures, c .before .before .found2 .given .1) (carried-stop (c .before .before .found2 .given .0 .0) _ (c .flatten2 .ensures))
+    rw (← at-walk .translate .ensures, c .before .before .found2 .given .1)
+    (carried-stop (c .before .before .found2 .given .0 .0) _ (c .flatten2 .ensures))
 
 pub skorbilek-write-va-spec : {M : Type 1} → statement M
-skorbilek-write-va-spec = tie.close (tie.spec translate-requires enum-known-found write-requires flatten-requires name-requires enum-known-found-2 flatten-requires-2 same-length returns same-length-2 returns-2)
+skorbilek-write-va-spec =
+    tie.close
+    (tie.spec
+    translate-requires
+    enum-known-found
+    write-requires
+    flatten-requires
+    name-requires
+    enum-known-found-2
+    flatten-requires-2
+    same-length
+    returns
+    same-length-2
+    returns-2)

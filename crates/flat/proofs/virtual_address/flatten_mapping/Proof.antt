@@ -29,7 +29,14 @@ returns c = rw (c .before .before .found .given .1, ← c .mapping-numbers .ensu
 
 returns-2 : tie.Need-returns-2
 unfolding flatMapping
-returns-2 c = rw (c .before .before .before .before .found2 .given .1, ← c .before .before .number .ensures, ← c .before .reason .ensures, ← c .mapping-numbers2 .ensures)
+returns-2 c =
+    let at-number = c .before .before in
+    rw (
+      at-number .before .before .found2 .given .1,
+      ← at-number .number .ensures,
+      ← c .before .reason .ensures,
+      ← c .mapping-numbers2 .ensures,
+    )
 
 pub flatten-mapping-spec : {M : Type 1} → statement M
 flatten-mapping-spec =

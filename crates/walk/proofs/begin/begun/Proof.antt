@@ -33,4 +33,12 @@ returns c = λ v.
     )
 
 pub begun-spec : {M : Type 1} → statement M
-begun-spec = tie.close (tie.spec sizes-hold-requires and-then-requires and-then-requires-2 is-host-requires and-then-requires-3 returns)
+begun-spec =
+    tie.close
+    (tie.spec
+    sizes-hold-requires
+    and-then-requires
+    and-then-requires-2
+    is-host-requires
+    and-then-requires-3
+    returns)

@@ -43,4 +43,13 @@ unfolding through
 returns-2 c = rw (← behind (c .before .before .before), c .before .enum-told .given .1) (c .walk .ensures)
 
 pub translate-spec : {M : Type 1} → statement M
-translate-spec = tie.close (tie.spec virtual-arguments-requires begun-requires enum-known-begun returns enum-told walk-requires returns-2)
+translate-spec =
+    tie.close
+    (tie.spec
+    virtual-arguments-requires
+    begun-requires
+    enum-known-begun
+    returns
+    enum-told
+    walk-requires
+    returns-2)

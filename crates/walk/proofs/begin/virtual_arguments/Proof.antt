@@ -25,4 +25,11 @@ returns c =
     rw (c .is-virtual .ensures, at-host .is-address2 .ensures, at-root .is-address .ensures, at-root .before .is-party .ensures)
 
 pub virtual-arguments-spec : {M : Type 1} → statement M
-virtual-arguments-spec = tie.close (tie.spec is-party-requires is-address-requires is-address-requires-2 is-virtual-requires returns)
+virtual-arguments-spec =
+    tie.close
+    (tie.spec
+    is-party-requires
+    is-address-requires
+    is-address-requires-2
+    is-virtual-requires
+    returns)

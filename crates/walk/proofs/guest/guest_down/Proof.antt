@@ -26,4 +26,12 @@ unfolding onward
 returns-2 c = rw (← c .before .before .before .guest-look .ensures, c .before .seen2 .given .1)
 
 pub guest-down-spec : {M : Type 1} → statement M
-guest-down-spec = tie.close (tie.spec guest-look-requires enum-known-seen follow-requires enum-known-seen-2 returns returns-2)
+guest-down-spec =
+    tie.close
+    (tie.spec
+    guest-look-requires
+    enum-known-seen
+    follow-requires
+    enum-known-seen-2
+    returns
+    returns-2)

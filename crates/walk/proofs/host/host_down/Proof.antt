@@ -26,4 +26,12 @@ unfolding down hostReads onward
 returns-2 c = rw (← c .before .before .before .host-look .ensures, c .before .refusal .given .1)
 
 pub host-down-spec : {M : Type 1} → statement M
-host-down-spec = tie.close (tie.spec host-look-requires enum-known-word follow-requires enum-known-refusal returns returns-2)
+host-down-spec =
+    tie.close
+    (tie.spec
+    host-look-requires
+    enum-known-word
+    follow-requires
+    enum-known-refusal
+    returns
+    returns-2)
