@@ -44,7 +44,7 @@ pub extern "C" fn skorbilek_walk(
         (state (now (table .entry)) (now (memory .entry)))
         (saidMapping r (now (table .entry)) (now (memory .entry)))) ⌝ }
 {
-    flatten_mapping(translate(table, memory, caller, root, root_type, host_root, va, true))
+    flatten_mapping(translate(table, memory, caller, root, host_root, root_type, va, true))
 }
 
 #[no_mangle]
@@ -70,8 +70,8 @@ pub extern "C" fn skorbilek_pvalidate_va(
         memory,
         caller,
         root,
-        root_type,
         host_root,
+        root_type,
         va,
         is_owned(kind),
     );
@@ -107,8 +107,8 @@ pub extern "C" fn skorbilek_read_va(
         memory,
         caller,
         root,
-        root_type,
         host_root,
+        root_type,
         va,
         index <= 511,
     );
@@ -154,8 +154,8 @@ pub extern "C" fn skorbilek_write_va(
         memory,
         caller,
         root,
-        root_type,
         host_root,
+        root_type,
         va,
         index <= 511,
     );

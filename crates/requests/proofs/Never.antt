@@ -21,9 +21,10 @@ abbrev UnbrokenReply : Reply → Type 0
 UnbrokenReply reply = ((reason : ℕ) → reply ≢ tells (refused (BAD-ENTRY reason))) × (reply ≢ tells (refused BROKEN-LEAF))
 
 reply-unbroken : (s : State) → Sound s → (request : Request) → UnbrokenReply (respond s request .reply)
-reply-unbroken s sound request =
-    (λ reason h. sound-unbroken sound (request-why s request _ h) .0 reason refl,
-    λ h. sound-unbroken sound (request-why s request _ h) .1 refl)
+reply-unbroken s sound request = (
+  λ reason h. sound-unbroken sound (request-why s request _ h) .0 reason refl,
+  λ h. sound-unbroken sound (request-why s request _ h) .1 refl,
+)
 
 -- a request of a list got what those before it left
 each-unbroken :
