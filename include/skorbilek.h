@@ -1,5 +1,5 @@
 /*
- * The nine calls of the Skorbilek page ownership monitor, and whole shared pages, for C11 and C++.
+ * The nine calls of the Skorbilek page ownership monitor, whole shared pages, and calls by virtual address, for C11 and C++.
  *
  * Link with libskorbilek.a, which `./skorbilek build` makes. docs/CALLS.md has each call's checks in order, what it changes and what it
  * answers; that the functions follow these rules, on every input, is proved (docs/PROMISES.md).
@@ -33,7 +33,7 @@ enum {
     SKORBILEK_MAX_ASID = 511      /* guests are 1 to 511; 0 is the host */
 };
 
-/* Types of a page: the argument `type` of rmpupdate and pvalidate, `gtype` and `ntype` of read and write. */
+/* Types of a page: the argument `type` of rmpupdate and pvalidate, `gtype` and `ntype` of read and write, `root_type` of a walk. */
 enum {
     SKORBILEK_TYPE_SHARED = 0,    /* nobody's: any party may read and write it */
     SKORBILEK_TYPE_PRIVATE = 1,   /* a guest's own */
@@ -44,12 +44,12 @@ enum {
 /* What kind of answer it is, and which fields of skorbilek_answer it fills. */
 enum {
     SKORBILEK_REFUSED = 0, /* any call: `refusal` says why, with 5 `reason` too; table and memory are as they were */
-    SKORBILEK_DONE = 1,    /* pfix, pmerge, punmerge, write, page_check, page_write: accepted */
+    SKORBILEK_DONE = 1,    /* pfix, pmerge, punmerge, write, page_check, page_write: accepted; write_va: accepted, at `gpa` */
     SKORBILEK_NONE = 2,    /* rmpupdate: accepted, and no open page was closed */
     SKORBILEK_CLOSED = 3,  /* rmpupdate: accepted, and the page of guest `asid` at `gpa` was closed */
-    SKORBILEK_OPENED = 4,  /* pvalidate: the page is open now */
-    SKORBILEK_ALREADY = 5, /* pvalidate: the page was open already */
-    SKORBILEK_WORD = 6,    /* read: `value` is the word */
+    SKORBILEK_OPENED = 4,  /* pvalidate: the page is open now; pvalidate_va: it is at `gpa` */
+    SKORBILEK_ALREADY = 5, /* pvalidate: the page was open already; pvalidate_va: it is at `gpa` */
+    SKORBILEK_WORD = 6,    /* read: `value` is the word; read_va: of the page at `gpa` */
     SKORBILEK_COUNT = 7,   /* census: `value` is the number of places */
     SKORBILEK_UNFIXED = 8  /* punfix: accepted, and the page is guest `asid`'s now, or nobody's where `asid` is 0 */
 };
@@ -72,7 +72,9 @@ enum {
     SKORBILEK_REFUSAL_PLACE_TAKEN = 14,   /* the guest has a place in the fixed page already */
     SKORBILEK_REFUSAL_LEAF_IN_USE = 15,   /* another fixed page has this leaf */
     SKORBILEK_REFUSAL_CONTENTS = 16,      /* the two frames differ */
-    SKORBILEK_REFUSAL_STILL_SHARED = 17   /* two or more words of the leaf are present, misshapen or not */
+    SKORBILEK_REFUSAL_STILL_SHARED = 17,  /* two or more words of the leaf are present, misshapen or not */
+    SKORBILEK_REFUSAL_ABSENT_ENTRY = 18,  /* by virtual address: an entry of a page table is not present */
+    SKORBILEK_REFUSAL_LARGE_PAGE = 19     /* by virtual address: an entry of a page table above the last level has bit 7 set */
 };
 
 /* What is bad in the entry that SKORBILEK_REFUSAL_BAD_ENTRY is given for. The rules of an entry are looked at in this order, and the first
@@ -87,10 +89,10 @@ enum {
 
 /* An answer. A field that its kind does not fill is 0. A call was accepted where `kind != SKORBILEK_REFUSED`. */
 typedef struct skorbilek_answer {
-    uint64_t refusal; /* the refusal's number, 1 to 17; 0 if the call was accepted */
+    uint64_t refusal; /* the refusal's number, 1 to 19; 0 if the call was accepted */
     uint64_t kind;    /* SKORBILEK_REFUSED .. SKORBILEK_UNFIXED */
     uint64_t asid;    /* CLOSED: whose page; UNFIXED: whose page it is now, 0 for nobody's */
-    uint64_t gpa;     /* CLOSED: the address that it had */
+    uint64_t gpa;     /* CLOSED: the address that it had; accepted by virtual address: the page's guest address */
     uint64_t value;   /* WORD: the word; COUNT: how many places */
     uint64_t reason;  /* with refusal 5, SKORBILEK_REASON_SPARE_BITS .. SKORBILEK_REASON_ADDRESS; else 0 */
 } skorbilek_answer;
@@ -157,6 +159,55 @@ static inline const uint64_t *skorbilek_page_read(const uint64_t *table, size_t 
     skorbilek_answer answer = skorbilek_page_check(table, table_words, memory, memory_words, caller, gpa, hpa);
     return answer.kind == SKORBILEK_DONE ? memory + hpa / sizeof *memory : NULL;
 }
+
+/*
+ * Calls by virtual address. A guest names a page by its virtual address `va`, and the library walks the page tables to it. There are four
+ * levels, as in the public x86-64 architecture: bits 47:39, 38:30, 29:21 and 20:12 of an address are the indices. An entry has present in
+ * bit 0, large page in bit 7 (not at the last level), an address in bits 51:12 and a type in bits 53:52; all other bits are ignored.
+ *   - caller     the guest, 1 to 511. Its tables are read as its own reads would be, so they lie in pages that it has opened, or SHARED;
+ *   - root       the guest address of its top table. From there down each entry has a guest address, and the type of what is there;
+ *   - root_type  the type of the top table, SHARED, PRIVATE or MERGEABLE: no entry has it;
+ *   - host_root  the host physical address of the host's top table. The host's tables lead from guest addresses, below 2^48, to frames, and
+ *                the last entry has the host's type. They are read as SHARED frames, by the host. Every guest address goes through them;
+ *   - va         the virtual address: a multiple of 4,096, and bits 63:48 are like bit 47.
+ * The refusals, in this order: 1; 2 for an argument; 3 for caller 0; then, each where it is met on the way, 2 for a guest address of 2^48
+ * or more, that of a read of a table (4 to 9, 12, 13; 5 with its reason), and for an entry 18, 19, and 6 if its type is LEAF (in the
+ * host's tables at the last level only). In the walk's answer and in those of the three calls they are the same.
+ */
+
+/* Where a virtual address leads. With a refusal the last four are 0. A virtual address leads to a page where `refusal == 0`. */
+typedef struct skorbilek_mapping {
+    uint64_t refusal; /* the refusal's number; 0 if there is none */
+    uint64_t reason;  /* with refusal 5, SKORBILEK_REASON_SPARE_BITS .. SKORBILEK_REASON_ADDRESS; else 0 */
+    uint64_t gpa;     /* the page's guest address, as the guest's last entry has it */
+    uint64_t hpa;     /* the host physical address of its frame, as the host's last entry has it. There need not be such a frame */
+    uint64_t gtype;   /* the type that the guest's last entry has, SHARED, PRIVATE or MERGEABLE */
+    uint64_t ntype;   /* the type that the host's last entry has, SHARED, PRIVATE or MERGEABLE */
+} skorbilek_mapping;
+
+/* The walk alone: where va leads the guest `caller`. It changes nothing, and does not look at the page itself. The refusals are 1 to 9, 12,
+   13, 18 and 19. */
+skorbilek_mapping skorbilek_walk(const uint64_t *table, size_t table_words, const uint64_t *memory, size_t memory_words,
+                                 uint64_t caller, uint64_t root, uint64_t root_type, uint64_t host_root, uint64_t va);
+
+/* PVALIDATE by virtual address: the guest `caller` accepts the frame that va leads to as its page at the guest address that va leads to.
+   The type is the call's, and 2 is given for it before the walk; the two types that the walk finds are not compared with it. After the walk
+   it is skorbilek_pvalidate: it changes what that does, and gives 10 too. Answers OPENED or ALREADY, with gpa. */
+skorbilek_answer skorbilek_pvalidate_va(uint64_t *table, size_t table_words, const uint64_t *memory, size_t memory_words,
+                                        uint64_t caller, uint64_t root, uint64_t root_type, uint64_t host_root, uint64_t va,
+                                        uint64_t type);
+
+/* READ by virtual address: the guest `caller` reads word `index` (0 to 511, else 2 before the walk) of the page that va leads to. After the
+   walk it is skorbilek_read with what the walk found. It changes nothing. Answers WORD, with gpa. */
+skorbilek_answer skorbilek_read_va(const uint64_t *table, size_t table_words, const uint64_t *memory, size_t memory_words,
+                                   uint64_t caller, uint64_t root, uint64_t root_type, uint64_t host_root, uint64_t va,
+                                   uint64_t index);
+
+/* WRITE by virtual address: the guest `caller` writes `value` to word `index` (0 to 511, else 2 before the walk) of the page that va leads
+   to. After the walk it is skorbilek_write with what the walk found: it changes that word, and gives 10 too. Answers DONE, with gpa. */
+skorbilek_answer skorbilek_write_va(const uint64_t *table, size_t table_words, uint64_t *memory, size_t memory_words,
+                                    uint64_t caller, uint64_t root, uint64_t root_type, uint64_t host_root, uint64_t va,
+                                    uint64_t index, uint64_t value);
 
 #ifdef __cplusplus
 }
