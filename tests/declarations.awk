@@ -1,5 +1,5 @@
-# Prints how a file declares the library's functions, a line each: its name, which struct it returns, then its parameters, `*` before a run of
-# words and `const` where it can't be changed. It reads the Rattle source, the C header and the Rust bindings, so that the three can be
+# Prints how a file declares the library's functions, a line each: its name, which struct it returns, then its parameters, `*` before a run
+# of words and `const` where it can't be changed. It reads the Rattle source, the C header and the Rust bindings, so that the three can be
 # compared. A function that the header defines itself, inline, is none of the library's.
 #     awk -f tests/declarations.awk include/skorbilek.h
 { text = text " " $0 }
