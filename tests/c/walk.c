@@ -67,6 +67,7 @@ static const uint64_t words[][3] = {
     {HOST_LAST, 11, 0x0010000000009001}, /* frame 9, which is at 0x30241804000 */
     {HOST_LAST, 12, 0x001000000000e001},
     {HOST_LAST, 13, 0x001000000000f001},
+    {HOST_LAST, 14, 0x001000000000d001}, /* frame 13, which is SHARED, as PRIVATE */
     {GUEST_TOP, 2, 0x0020030241801001},  /* an address of the lower half, and then the first and the last index of each half */
     {GUEST_TOP, 0, 0x0020030241801001},
     {GUEST_TOP, 255, 0x0020030241801001},
@@ -86,6 +87,7 @@ static const uint64_t words[][3] = {
     {GUEST_LAST, 0x1c, 0x001003024180c001},
     {GUEST_LAST, 0x1d, 0x001003024180d001},
     {GUEST_LAST, 0x1e, 0x0000030241805001}, /* as SHARED, where the host's type is MERGEABLE */
+    {GUEST_LAST, 0x1f, 0x000003024180e001}, /* as SHARED, where the host's type is PRIVATE */
     {LEAF_PAGE, GUEST, 0x30241806001},
 };
 
@@ -206,10 +208,10 @@ static void reaches_page(named a)
     const uint64_t gpa = OPEN_MAPPING.gpa;
     right(is_mapping(skorbilek_walk(LENT, NAMED(a)), OPEN_MAPPING), "walk: another mapping", a);
     right(is_answer(skorbilek_pvalidate_va(LENT, NAMED(a), PRIVATE), yes(SKORBILEK_ALREADY, gpa, 0)), "pvalidate_va: another answer", a);
-    right(is_answer(skorbilek_read_va(LENT, NAMED(a), 511), yes(SKORBILEK_WORD, gpa, FRAME * 9 + 512)), "read_va: another answer", a);
+    right(is_answer(skorbilek_read_va(LENT, NAMED(a), 511), yes(SKORBILEK_WORD, gpa, FRAME * PAGE + 512)), "read_va: another answer", a);
     right(is_as_kept(), "walked and read, and changes a word", a);
     right(is_answer(skorbilek_write_va(LENT, NAMED(a), 511, UINT64_MAX), yes(SKORBILEK_DONE, gpa, 0)), "write_va: another answer", a);
-    memory_before[FRAME * 9 + 511] = UINT64_MAX;
+    memory_before[FRAME * PAGE + 511] = UINT64_MAX;
     right(is_as_kept(), "write_va: other words change", a);
 }
 
@@ -431,13 +433,13 @@ static const change ENTRIES[] = {
     {WORD(HOST_LAST, 4), 0x0010000000009081, 0, 0},
     {WORD(HOST_LAST, 0), 0x0010000000005081, 0, 0},
     {WORD(HOST_LAST, 2), 0x0030000000007001, 6, 0},
-    /* the host's tables where the host can't read them as SHARED: outside, a bad entry, a guest's page, a LEAF, no entry but PRIVATE */
+    /* the host's tables where the host can't read them as SHARED: outside, a bad entry, a guest's page, a LEAF */
     {WORD(HOST_TOP, 6), 0x0000000000012001, 4, 0},
     {WORD(HOST_TOP, 6), 0x000ffffffffff001, 4, 0},
     {WORD(HOST_SECOND, 9), 0x000000000000e001, 5, SKORBILEK_REASON_SPARE_BITS},
     {WORD(HOST_THIRD, 12), 0x0000000000009001, 6, 0},
     {WORD(HOST_THIRD, 12), 0x000000000000c001, 6, 0},
-    /* the guest's tables where the guest can't read them */
+    /* the guest's tables where the guest can't read them: outside, a bad entry, no entry, SHARED, another guest's, another address */
     {WORD(HOST_LAST, 0), 0x0010000000012001, 4, 0},
     {WORD(HOST_LAST, 3), 0x001000000000e001, 5, SKORBILEK_REASON_SPARE_BITS},
     {WORD(HOST_LAST, 3), 0x0010000000010001, 6, 0},
@@ -574,6 +576,7 @@ static const page PAGES[] = {
     {0xffff8080c0a1c000, 0x3024180c000, 0xe000, 1, 1, 1, 0, 5, 5, 5},
     {0xffff8080c0a1d000, 0x3024180d000, 0xf000, 1, 1, 1, 0, 7, 7, 7},
     {0xffff8080c0a1e000, 0x30241805000, 0xa000, 0, 2, 2, SKORBILEK_OPENED, 0, 6, 6}, /* the types differ, which pvalidate_va lets pass */
+    {0xffff8080c0a1f000, 0x3024180e000, 0xd000, 0, 1, 1, 0, 6, 6, 6}, /* they differ, and the guest's is the entry's */
 };
 
 /* Frame 14 alone is bad. */
