@@ -1,5 +1,6 @@
 //! What a call answers.
 
+use crate::Reached;
 use std::error::Error;
 use std::fmt;
 
@@ -48,11 +49,12 @@ pub enum Answer {
 pub enum Refusal {
     /// 1: the lengths of table and memory break the sizes.
     Geometry,
-    /// 2: no address, an ASID or word index above 511, a type that is not allowed, a written run that is not 512 words.
+    /// 2: no address, an ASID or word index above 511, a type that is not allowed, a written run that is not 512 words, no virtual
+    /// address, or a guest address of 2^48 or more on the way of a walk.
     Argument,
     /// 3: the call is not this party's.
     Caller,
-    /// 4: a named frame is N or above (READ, WRITE and whole pages: M or above).
+    /// 4: a named frame is N or above (READ, WRITE, whole pages and what a walk reads: M or above).
     Outside,
     /// 5: the entry of a named frame is not well formed, for this reason. Of two named frames with such an entry it is that of the one
     /// that comes first among the arguments, and in CENSUS that of the lowest frame.
@@ -81,6 +83,10 @@ pub enum Refusal {
     Contents,
     /// 17: two or more words of the leaf are present, misshapen or not.
     StillShared,
+    /// 18: an entry of a page table on the way of a walk is absent.
+    AbsentEntry,
+    /// 19: an entry of a page table on the way of a walk, above the last level, has bit 7 set: a large page.
+    LargePage,
 }
 
 /// What is bad in an entry: the first of the rules, in this order, that it breaks.
@@ -132,7 +138,7 @@ impl Reason {
 
 impl Refusal {
     /// All of them, by number, and 5 once for each reason.
-    pub const ALL: [Refusal; 20] = [
+    pub const ALL: [Refusal; 22] = [
         Refusal::Geometry,
         Refusal::Argument,
         Refusal::Caller,
@@ -153,9 +159,23 @@ impl Refusal {
         Refusal::LeafInUse,
         Refusal::Contents,
         Refusal::StillShared,
+        Refusal::AbsentEntry,
+        Refusal::LargePage,
     ];
 
-    /// Its number in the rules, 1 to 17.
+    /// The refusal with this number and reason.
+    #[inline]
+    pub(crate) fn of(number: u64, reason: u64) -> Option<Refusal> {
+        let place = match (number, reason) {
+            (1..=4, 0) => number - 1,
+            (5, 1..=4) => 3 + reason,
+            (6..=19, 0) => number + 2,
+            _ => return None,
+        };
+        Some(Refusal::ALL[place as usize])
+    }
+
+    /// Its number in the rules, 1 to 19.
     ///
     /// ```
     /// assert_eq!(skorbilek::Refusal::StillShared.number(), 17);
@@ -179,6 +199,8 @@ impl Refusal {
             Refusal::LeafInUse => 15,
             Refusal::Contents => 16,
             Refusal::StillShared => 17,
+            Refusal::AbsentEntry => 18,
+            Refusal::LargePage => 19,
         }
     }
 
@@ -217,6 +239,8 @@ impl Refusal {
             Refusal::LeafInUse => "LEAF IN USE",
             Refusal::Contents => "CONTENTS",
             Refusal::StillShared => "STILL SHARED",
+            Refusal::AbsentEntry => "ABSENT ENTRY",
+            Refusal::LargePage => "LARGE PAGE",
         }
     }
 }
@@ -278,16 +302,17 @@ impl Flat {
         }
     }
 
-    /// The refusal with this number and reason.
+    /// The same of a call by virtual address, whose accepted answer names the guest address too.
+    #[inline]
+    pub(crate) fn reached(self) -> Result<Reached, Refusal> {
+        let gpa = self.gpa;
+        let answer = self.answer()?;
+        Ok(Reached { answer, gpa })
+    }
+
     #[inline]
     fn refusal(self) -> Refusal {
-        let place = match (self.refusal, self.reason) {
-            (number @ 1..=4, 0) => number - 1,
-            (5, reason @ 1..=4) => 3 + reason,
-            (number @ 6..=17, 0) => number + 2,
-            _ => self.unknown(),
-        };
-        Refusal::ALL[place as usize]
+        Refusal::of(self.refusal, self.reason).unwrap_or_else(|| self.unknown())
     }
 
     #[cold]
@@ -346,10 +371,10 @@ mod tests {
 
     #[test]
     fn no_other_number_and_reason_are_a_refusal() {
-        for number in 0..=18 {
+        for number in 0..=20 {
             for reason in 0..=5 {
                 let is_one = match number {
-                    1..=4 | 6..=17 => reason == 0,
+                    1..=4 | 6..=19 => reason == 0,
                     _ => number == 5 && (1..=4).contains(&reason),
                 };
                 let told = catch_unwind(|| refused(number, reason));

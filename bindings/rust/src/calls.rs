@@ -1,11 +1,12 @@
-//! The library's functions: the nine calls, and the check and the writing of a whole shared page. This is the only file with unsafe code:
-//! each function hands the pointers and lengths of its slices to the library.
+//! The library's functions: the nine calls, the check and the writing of a whole shared page, and the four calls by virtual address. This is
+//! the only file with unsafe code: each function hands the pointers and lengths of its slices to the library.
 //!
 //! What the library asks of a caller is true of a slice by its type: a pointer that is not null, aligned, to that many words, which
 //! nobody else writes to meanwhile. Two slices of which one is `&mut` do not overlap. Whatever words and numbers are, it answers.
 #![allow(unsafe_code)]
 
 use crate::answer::{Answer, Flat, Refusal};
+use crate::mapping::{FlatMapping, Mapping, Reached};
 
 // As `include/skorbilek.h` has them.
 #[rustfmt::skip]
@@ -32,6 +33,14 @@ extern "C" {
         caller: u64, gpa: u64, hpa: u64) -> Flat;
     fn skorbilek_page_write(table: *const u64, table_words: usize, memory: *mut u64, memory_words: usize,
         caller: u64, gpa: u64, hpa: u64, words: *const u64, words_count: usize) -> Flat;
+    fn skorbilek_walk(table: *const u64, table_words: usize, memory: *const u64, memory_words: usize,
+        caller: u64, root: u64, root_type: u64, host_root: u64, va: u64) -> FlatMapping;
+    fn skorbilek_pvalidate_va(table: *mut u64, table_words: usize, memory: *const u64, memory_words: usize,
+        caller: u64, root: u64, root_type: u64, host_root: u64, va: u64, kind: u64) -> Flat;
+    fn skorbilek_read_va(table: *const u64, table_words: usize, memory: *const u64, memory_words: usize,
+        caller: u64, root: u64, root_type: u64, host_root: u64, va: u64, index: u64) -> Flat;
+    fn skorbilek_write_va(table: *const u64, table_words: usize, memory: *mut u64, memory_words: usize,
+        caller: u64, root: u64, root_type: u64, host_root: u64, va: u64, index: u64, value: u64) -> Flat;
 }
 
 /// RMPUPDATE: the host gives the frame at `hpa` to the guest `asid` at its address `gpa`, as a page of the type `kind`; or makes it
@@ -346,4 +355,159 @@ pub fn page_write(
     let (m, w) = (memory.as_mut_ptr(), memory.len());
     let (p, k) = (words.as_ptr(), words.len());
     unsafe { skorbilek_page_write(t, n, m, w, caller, gpa, hpa, p, k) }.answer()
+}
+
+/// The walk: where the virtual address `va` of the guest `caller` leads, by its own page tables and the host's. The guest's top table is its
+/// page at `root`, of the type `root_type`; the host's is the SHARED frame at `host_root`. Every guest address on the way goes through the
+/// host's tables first. Table and memory stay as they are.
+///
+/// Both tables have four levels, as those of x86-64 have: an entry has bit 0 where it is present, the address in bits 51 to 12 and the type
+/// in bits 53 and 52.
+///
+/// ```
+/// # use skorbilek::{pvalidate, rmpupdate, walk, write, Mapping, Refusal, HOST, PRIVATE, SHARED};
+/// # let (mut table, mut memory) = ([0; 16], vec![0; 5120]);
+/// // the host's table is in frame 0. Its word 0 is the table itself, so that one frame is the table of all four levels; it has the guest
+/// // addresses 0x50000 and 0x51000 in frames 1 and 2, PRIVATE
+/// for (index, entry) in [(0, 0x1), (0x50, 0x10000000001001), (0x51, 0x10000000002001)] {
+///     write(&table, &mut memory, HOST, 0, 0, SHARED, SHARED, index, entry)?;
+/// }
+/// rmpupdate(&mut table, &mut memory, HOST, 0x1000, 0x50000, 7, PRIVATE)?;
+/// rmpupdate(&mut table, &mut memory, HOST, 0x2000, 0x51000, 7, PRIVATE)?;
+///
+/// // guest 7 makes its page at 0x50000 its table, again of all levels: word 0 is the table itself, and word 3 the page at 0x51000
+/// pvalidate(&mut table, &memory, 7, 0x50000, 0x1000, PRIVATE)?;
+/// for (index, entry) in [(0, 0x10000000050001), (3, 0x10000000051001)] {
+///     write(&table, &mut memory, 7, 0x50000, 0x1000, PRIVATE, PRIVATE, index, entry)?;
+/// }
+///
+/// // virtual address 0x3000 is word 0 at the three upper levels, and word 3 at the last
+/// let found = walk(&table, &memory, 7, 0x50000, PRIVATE, 0, 0x3000)?;
+/// assert_eq!(found, Mapping { gpa: 0x51000, hpa: 0x2000, gtype: PRIVATE, ntype: PRIVATE });
+/// assert_eq!(walk(&table, &memory, 7, 0x50000, PRIVATE, 0, 0x4000), Err(Refusal::AbsentEntry));
+/// assert_eq!(walk(&table, &memory, 9, 0x50000, PRIVATE, 0, 0x3000), Err(Refusal::Owner));
+/// # Ok::<(), Refusal>(())
+/// ```
+#[inline]
+pub fn walk(
+    table: &[u64],
+    memory: &[u64],
+    caller: u64,
+    root: u64,
+    root_type: u64,
+    host_root: u64,
+    va: u64,
+) -> Result<Mapping, Refusal> {
+    let (t, n) = (table.as_ptr(), table.len());
+    let (m, w) = (memory.as_ptr(), memory.len());
+    unsafe { skorbilek_walk(t, n, m, w, caller, root, root_type, host_root, va) }.mapping()
+}
+
+/// PVALIDATE by virtual address: the guest `caller` accepts the page that [`walk`] finds at `va`, as one of the type `kind`. Answers
+/// [`Answer::Opened`] or [`Answer::Already`], with the guest address.
+///
+/// ```
+/// # use skorbilek::{pvalidate_va, Answer, Reached, Refusal, PRIVATE};
+/// # let mut table = [0, 0, 0x50007, 0x50000, 0x10007, 0x51000];
+/// # let mut memory = vec![0; 512 * 3];
+/// # (memory[0], memory[0x50], memory[0x51]) = (0x1, 0x10000000001001, 0x10000000002001);
+/// # (memory[512], memory[512 + 3]) = (0x10000000050001, 0x10000000051001);
+/// // the tables are those of the example of `walk`: 0x3000 leads to the page at 0x51000, which guest 7 has not opened yet
+/// let opened = pvalidate_va(&mut table, &memory, 7, 0x50000, PRIVATE, 0, 0x3000, PRIVATE)?;
+/// assert_eq!(opened, Reached { answer: Answer::Opened, gpa: 0x51000 });
+/// let again = pvalidate_va(&mut table, &memory, 7, 0x50000, PRIVATE, 0, 0x3000, PRIVATE)?;
+/// assert_eq!(again, Reached { answer: Answer::Already, gpa: 0x51000 });
+/// # Ok::<(), Refusal>(())
+/// ```
+#[inline]
+#[allow(clippy::too_many_arguments)]
+pub fn pvalidate_va(
+    table: &mut [u64],
+    memory: &[u64],
+    caller: u64,
+    root: u64,
+    root_type: u64,
+    host_root: u64,
+    va: u64,
+    kind: u64,
+) -> Result<Reached, Refusal> {
+    let (t, n) = (table.as_mut_ptr(), table.len());
+    let (m, w) = (memory.as_ptr(), memory.len());
+    unsafe { skorbilek_pvalidate_va(t, n, m, w, caller, root, root_type, host_root, va, kind) }
+        .reached()
+}
+
+/// READ by virtual address: `caller` reads word `index` of the page that [`walk`] finds at `va`, with the types that it finds. Answers
+/// [`Answer::Word`], with the guest address.
+///
+/// ```
+/// # use skorbilek::{read_va, Answer, Reached, Refusal, PRIVATE};
+/// # let table = [0, 0, 0x50007, 0x50000, 0x50007, 0x51000];
+/// # let mut memory = vec![0; 512 * 3];
+/// # (memory[0], memory[0x50], memory[0x51]) = (0x1, 0x10000000001001, 0x10000000002001);
+/// # (memory[512], memory[512 + 3]) = (0x10000000050001, 0x10000000051001);
+/// // the tables are those of the example of `walk`, and guest 7 has opened both pages. It reads its table as the page at 0
+/// let read = read_va(&table, &memory, 7, 0x50000, PRIVATE, 0, 0x0, 3)?;
+/// assert_eq!(read, Reached { answer: Answer::Word(0x10000000051001), gpa: 0x50000 });
+/// assert_eq!(read_va(&table, &memory, 7, 0x50000, PRIVATE, 0, 0x0, 512), Err(Refusal::Argument));
+/// # Ok::<(), Refusal>(())
+/// ```
+#[inline]
+#[allow(clippy::too_many_arguments)]
+pub fn read_va(
+    table: &[u64],
+    memory: &[u64],
+    caller: u64,
+    root: u64,
+    root_type: u64,
+    host_root: u64,
+    va: u64,
+    index: u64,
+) -> Result<Reached, Refusal> {
+    let (t, n) = (table.as_ptr(), table.len());
+    let (m, w) = (memory.as_ptr(), memory.len());
+    unsafe { skorbilek_read_va(t, n, m, w, caller, root, root_type, host_root, va, index) }
+        .reached()
+}
+
+/// WRITE by virtual address: `caller` writes `value` to word `index` of the page that [`walk`] finds at `va`, with the types that it finds.
+/// Answers [`Answer::Done`], with the guest address.
+///
+/// ```
+/// # use skorbilek::{read_va, write_va, Answer, Reached, Refusal, PRIVATE};
+/// # let table = [0, 0, 0x50007, 0x50000, 0x50007, 0x51000];
+/// # let mut memory = vec![0; 512 * 3];
+/// # (memory[0], memory[0x50], memory[0x51]) = (0x1, 0x10000000001001, 0x10000000002001);
+/// # (memory[512], memory[512 + 3]) = (0x10000000050001, 0x10000000051001);
+/// // the tables are those of the example of `walk`, and guest 7 has opened both pages
+/// let written = write_va(&table, &mut memory, 7, 0x50000, PRIVATE, 0, 0x3000, 5, 42)?;
+/// assert_eq!(written, Reached { answer: Answer::Done, gpa: 0x51000 });
+/// assert_eq!(memory[512 * 2 + 5], 42);
+///
+/// // by writing word 4 of its table it puts the page at 0x4000 too
+/// write_va(&table, &mut memory, 7, 0x50000, PRIVATE, 0, 0x0, 4, 0x10000000051001)?;
+/// assert_eq!(read_va(&table, &memory, 7, 0x50000, PRIVATE, 0, 0x4000, 5)?.answer, Answer::Word(42));
+/// # Ok::<(), Refusal>(())
+/// ```
+#[inline]
+#[allow(clippy::too_many_arguments)]
+pub fn write_va(
+    table: &[u64],
+    memory: &mut [u64],
+    caller: u64,
+    root: u64,
+    root_type: u64,
+    host_root: u64,
+    va: u64,
+    index: u64,
+    value: u64,
+) -> Result<Reached, Refusal> {
+    let (t, n) = (table.as_ptr(), table.len());
+    let (m, w) = (memory.as_mut_ptr(), memory.len());
+    unsafe {
+        skorbilek_write_va(
+            t, n, m, w, caller, root, root_type, host_root, va, index, value,
+        )
+    }
+    .reached()
 }

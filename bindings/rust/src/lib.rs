@@ -1,4 +1,5 @@
-//! The nine calls of the Skorbilek page ownership monitor, and whole shared pages, on a table and a memory that the caller lends as slices.
+//! The nine calls of the Skorbilek page ownership monitor, whole shared pages, and calls by virtual address, on a table and a memory that
+//! the caller lends as slices.
 //!
 //! The table says which guest owns which page of memory. The host and the guests make calls on it, and the monitor checks each of them:
 //! every call answers, whatever the slices and the numbers hold, and a refusal changes nothing. That each call follows its rule on
@@ -34,6 +35,9 @@
 //! for each word: the first takes 512 words, and the second hands back those of the frame, where they lie in memory. [`page_check`] makes
 //! the checks alone.
 //!
+//! A guest that names a virtual address, as PVALIDATE does in the design, calls [`pvalidate_va`], [`read_va`] and [`write_va`]: they find
+//! the guest address, the frame and the types in the page tables of guest and host, as [`walk`] does alone.
+//!
 //! [`Refusal::BadEntry`] carries a [`Reason`]: what is bad in the entry. No call gives it where the table started with zeros and nothing
 //! but these calls has changed table and memory. To find all bad entries of a table, ask [`page_check`] about each of its frames:
 //!
@@ -60,11 +64,14 @@
 
 mod answer;
 mod calls;
+mod mapping;
 mod pages;
 
 pub use answer::{Answer, Reason, Refusal};
 pub use calls::{census, pfix, pmerge, punfix, punmerge, pvalidate, read, rmpupdate, write};
 pub use calls::{page_check, page_write};
+pub use calls::{pvalidate_va, read_va, walk, write_va};
+pub use mapping::{Mapping, Reached};
 pub use pages::page_read;
 
 /// The host's number as a caller. Guests are 1 to [`MAX_ASID`].
