@@ -11,12 +11,14 @@ mod frames;
 mod loops;
 mod meter;
 mod page_calls;
+mod page_tables;
 mod pages;
 mod random;
 mod report;
 mod results;
 mod scene;
 mod slices;
+mod told;
 mod world;
 
 use std::env;

@@ -2,10 +2,9 @@
 
 use std::time::Duration;
 
-use common::answer::translated;
-
 use crate::calls::Call;
 use crate::scene::{Nobody, Ours, Scene, Second};
+use crate::told::Tell;
 
 /// How much is measured.
 pub struct Meter {
@@ -120,9 +119,9 @@ fn check<C: Call, const T: usize, const M: usize>(
     for (place, turn) in one.turns.iter().take(CHECKED).enumerate() {
         let (table1, memory1) = one.world.slices();
         let (table2, memory2) = two.world.slices();
-        let answer = translated(turn.call.ours(table1, memory1));
-        assert_eq!(answer, turn.call.second(table2, memory2));
-        match (answer, expect) {
+        let told = turn.call.ours(table1, memory1).told();
+        assert_eq!(told, turn.call.second(table2, memory2).told());
+        match (told.answer, expect) {
             (second::Answer::Refused { number, .. }, Expect::Refused(expected)) => {
                 assert_eq!(number, expected)
             }

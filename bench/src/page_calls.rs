@@ -2,7 +2,7 @@
 
 use std::hint::black_box;
 
-use crate::calls::Call;
+use crate::calls::{Answered, Call};
 
 /// The one refusal that is measured, 6. The second implementation's reading hands back an empty part then, and no number.
 const TYPE: second::Answer = second::Answer::Refused {
@@ -26,12 +26,11 @@ pub struct PageWrite {
 }
 
 impl Call for PageRead {
+    type Ours = Answered;
+    type Second = second::Answer;
+
     #[inline(always)]
-    fn ours(
-        self,
-        table: &mut [u64],
-        memory: &mut [u64],
-    ) -> Result<skorbilek::Answer, skorbilek::Refusal> {
+    fn ours(self, table: &mut [u64], memory: &mut [u64]) -> Answered {
         let (caller, gpa, hpa) = self.arguments();
         let page = black_box(skorbilek::page_read(table, memory, caller, gpa, hpa));
         page.map(|_| skorbilek::Answer::Done)
@@ -64,12 +63,11 @@ impl PageRead {
 }
 
 impl Call for PageWrite {
+    type Ours = Answered;
+    type Second = second::Answer;
+
     #[inline(always)]
-    fn ours(
-        self,
-        table: &mut [u64],
-        memory: &mut [u64],
-    ) -> Result<skorbilek::Answer, skorbilek::Refusal> {
+    fn ours(self, table: &mut [u64], memory: &mut [u64]) -> Answered {
         let (caller, gpa, hpa, words) = self.arguments();
         skorbilek::page_write(table, memory, caller, gpa, hpa, words)
     }

@@ -9,6 +9,7 @@ mod pages;
 mod refused;
 mod spread;
 mod tables;
+mod walks;
 
 use crate::meter::{Expect, Meter, Samples};
 use crate::scene::Turn;
@@ -34,7 +35,7 @@ macro_rules! case {
 const TURNS: usize = 32;
 
 /// Accepted calls, on warm frames.
-pub const ACCEPTED: [Case; 19] = [
+pub const ACCEPTED: [Case; 24] = [
     case!(
         "RMPUPDATE, the ASID stays",
         Expect::Accepted,
@@ -78,10 +79,19 @@ pub const ACCEPTED: [Case; 19] = [
     case!("page_check", Expect::Accepted, pages::check),
     case!("page_read", Expect::Accepted, pages::read),
     case!("page_write", Expect::Accepted, pages::write),
+    case!("walk, PRIVATE tables", Expect::Accepted, walks::found),
+    case!(
+        "walk, tables in a merged page",
+        Expect::Accepted,
+        walks::found_merged
+    ),
+    case!("pvalidate_va, opened", Expect::Accepted, walks::opened),
+    case!("read_va, own page", Expect::Accepted, walks::read),
+    case!("write_va, own page", Expect::Accepted, walks::write),
 ];
 
 /// Refused calls, on warm frames.
-pub const REFUSED: [Case; 19] = [
+pub const REFUSED: [Case; 25] = [
     case!(
         "PMERGE, 16: the last word differs",
         Expect::Refused(16),
@@ -125,6 +135,24 @@ pub const REFUSED: [Case; 19] = [
         Expect::Refused(2),
         pages::write_short
     ),
+    case!(
+        "walk, 18 in the guest's last table",
+        Expect::Refused(18),
+        walks::absent
+    ),
+    case!(
+        "walk, 19 in the guest's top table",
+        Expect::Refused(19),
+        walks::large
+    ),
+    case!(
+        "walk, 2: no virtual address",
+        Expect::Refused(2),
+        walks::no_address
+    ),
+    case!("pvalidate_va, 6", Expect::Refused(6), walks::validate_other),
+    case!("read_va, 9", Expect::Refused(9), walks::read_closed),
+    case!("write_va, 10", Expect::Refused(10), walks::write_fixed),
 ];
 
 /// Accepted calls, each on another frame, over all frames of the table in random order.

@@ -8,7 +8,7 @@ use crate::results::{named, Results, GROWTH};
 
 const LEFT: f64 = 80.0;
 const RIGHT: f64 = 650.0;
-const HEIGHT: f64 = 400.0;
+const HEIGHT: f64 = 440.0;
 /// What labels need, one below the other.
 const APART: f64 = 17.0;
 

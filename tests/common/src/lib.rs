@@ -4,3 +4,4 @@
 
 pub mod answer;
 pub mod layout;
+pub mod page_tables;
