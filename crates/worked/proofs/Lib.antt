@@ -4,3 +4,4 @@ pub mod Examples
 pub mod Output
 pub mod Pages
 pub mod Reasons
+pub mod Virtual
