@@ -53,7 +53,7 @@ impl Program {
     }
 }
 
-/// Copies the source to a folder that has nothing else in it.
+/// Copies the source to a folder that has nothing else in it. The folders in it have tests alone.
 fn copy_source(folder: &Path) {
     if folder.exists() {
         fs::remove_dir_all(folder).expect("an old copy can be removed");
@@ -61,7 +61,9 @@ fn copy_source(folder: &Path) {
     fs::create_dir_all(folder).expect("a folder can be made");
     for file in fs::read_dir(SOURCE).expect("the source can be listed") {
         let file = file.expect("the source can be listed");
-        write(&folder.join(file.file_name()), &read(&file.path()));
+        if file.path().is_file() {
+            write(&folder.join(file.file_name()), &read(&file.path()));
+        }
     }
 }
 
