@@ -6,7 +6,7 @@
 use std::array::from_fn;
 
 use common::layout::{address, present, Entry, MERGEABLE, PRIVATE, SHARED};
-use common::page_tables::{address_with, index, mapped, LEVELS};
+use common::page_tables::{entry, index, virtual_address, LEVELS};
 
 use crate::world::World;
 
@@ -15,9 +15,11 @@ pub const GUEST: u64 = 7;
 /// The owner of the fixed pages, in which the guest has a place.
 const OWNER: u64 = 9;
 
+/// How many levels there are.
+const DEPTH: usize = LEVELS.len();
 /// The frames of the host's tables and of the guest's, from the top down.
-const HOST_FRAMES: [usize; LEVELS] = [0, 1, 0, 1];
-pub const GUEST_FRAMES: [usize; LEVELS] = [2, 3, 4, 5];
+const HOST_FRAMES: [usize; DEPTH] = [0, 1, 0, 1];
+pub const GUEST_FRAMES: [usize; DEPTH] = [2, 3, 4, 5];
 /// The frame of the guest's tables where all four are one fixed page, and of its leaf.
 const TABLE: usize = 2;
 const TABLE_LEAF: usize = 3;
@@ -26,11 +28,11 @@ pub const PAGE: usize = 6;
 const PAGE_LEAF: usize = 7;
 
 /// The virtual addresses that lead to the page are those of slots 0 to 3. The guest's tables are at the same guest addresses.
-pub const SLOTS: usize = LEVELS;
+pub const SLOTS: usize = DEPTH;
 
 /// The address of a slot. No two indices of the addresses of slots 0 to 4 are the same, and all are 25 words apart.
 pub fn spread(slot: usize) -> u64 {
-    address_with(from_fn(|level| 25 * ((SLOTS + 1) * level + slot)))
+    virtual_address(from_fn(|level| 25 * ((SLOTS + 1) * level + slot)))
 }
 
 /// The guest address of the page.
@@ -45,8 +47,8 @@ pub fn page(kind: u64) -> Entry {
 
 /// Tables from the top down: their frames, the addresses by which entries name them, and their type.
 struct Tables {
-    frames: [usize; LEVELS],
-    addresses: [u64; LEVELS],
+    frames: [usize; DEPTH],
+    addresses: [u64; DEPTH],
     kind: u64,
 }
 
@@ -61,12 +63,12 @@ impl Tables {
 
     /// Leads from an address to another, of this type.
     fn map(&self, world: &mut World, from: u64, to: u64, kind: u64) {
-        for level in 0..LEVELS {
-            let word = match self.addresses.get(level + 1) {
-                Some(&below) => mapped(below, self.kind),
-                None => mapped(to, kind),
+        for (depth, level) in LEVELS.into_iter().enumerate() {
+            let word = match self.addresses.get(depth + 1) {
+                Some(&below) => entry(below, self.kind),
+                None => entry(to, kind),
             };
-            world.set(self.frames[level], index(from, level), word);
+            world.set(self.frames[depth], index(from, level), word);
         }
     }
 
@@ -94,9 +96,9 @@ pub fn private_tables(n: usize, page: Entry) -> World {
         kind: PRIVATE,
     };
     let mut world = tables.world(n, page);
-    for (level, frame) in GUEST_FRAMES.into_iter().enumerate() {
-        let entry = Entry::closed(GUEST, PRIVATE, spread(level));
-        world.put(frame, entry.open());
+    for (slot, frame) in GUEST_FRAMES.into_iter().enumerate() {
+        let page = Entry::closed(GUEST, PRIVATE, spread(slot));
+        world.put(frame, page.open());
     }
     world
 }
@@ -104,8 +106,8 @@ pub fn private_tables(n: usize, page: Entry) -> World {
 /// A world in which the guest's four tables are one page, the guest was merged into it, and the page has this entry.
 pub fn merged_tables(n: usize, page: Entry) -> World {
     let tables = Tables {
-        frames: [TABLE; LEVELS],
-        addresses: [spread(0); LEVELS],
+        frames: [TABLE; DEPTH],
+        addresses: [spread(0); DEPTH],
         kind: MERGEABLE,
     };
     let mut world = tables.world(n, page);
@@ -137,7 +139,8 @@ mod tests {
         let host = (0..=SLOTS).map(|slot| (HOST_FRAMES, spread(slot)));
         let tables = host.chain([(GUEST_FRAMES, va)]);
         let words = tables.flat_map(|(frames, from)| {
-            (0..LEVELS).map(move |level| word_at(frames[level], index(from, level)))
+            let tables = frames.into_iter().zip(LEVELS);
+            tables.map(move |(frame, level)| word_at(frame, index(from, level)))
         });
         words.map(|word| word / 8).collect()
     }

@@ -1,7 +1,7 @@
 //! The calls by virtual address, accepted and refused: on the way, at the end of it, or before it.
 
 use common::layout::{address, MERGEABLE, PRIVATE};
-use common::page_tables::{index, mapped, INDEX_END, LARGE, LEVELS};
+use common::page_tables::{entry, index, GUEST_END, LARGE, LEVELS};
 
 use super::{repeated, steady};
 use crate::calls::{PvalidateVa, ReadVa, Walk, WriteVa};
@@ -102,19 +102,19 @@ pub fn write(n: usize) -> Scene<WriteVa, 0, 0> {
 
 /// The walk that meets an absent entry in the guest's last table.
 pub fn absent(n: usize) -> Scene<Walk, 0, 0> {
-    met(n, LEVELS - 1, 0)
+    met(n, LEVELS.len() - 1, 0)
 }
 
 /// The walk that meets bit 7 in the guest's top table.
 pub fn large(n: usize) -> Scene<Walk, 0, 0> {
-    met(n, 0, mapped(spread(1), PRIVATE) | LARGE)
+    met(n, 0, entry(spread(1), PRIVATE) | LARGE)
 }
 
 /// The walk that meets this word in the guest's table of a level.
 fn met(n: usize, level: usize, word: u64) -> Scene<Walk, 0, 0> {
     let mut world = open(n);
     for va in (0..SLOTS).map(spread) {
-        world.set(GUEST_FRAMES[level], index(va, level), word);
+        world.set(GUEST_FRAMES[level], index(va, LEVELS[level]), word);
     }
     scene(world, walking)
 }
@@ -122,7 +122,7 @@ fn met(n: usize, level: usize, word: u64) -> Scene<Walk, 0, 0> {
 /// The walk of an address whose bits 63:48 are unlike bit 47.
 pub fn no_address(n: usize) -> Scene<Walk, 0, 0> {
     scene(open(n), |slot| Walk {
-        va: spread(slot) + INDEX_END,
+        va: spread(slot) + GUEST_END,
         ..walking(slot)
     })
 }

@@ -1,6 +1,7 @@
 //! A call as a letter and numbers, and numbers for it: taken from the state at hand, at the boundaries, or near what they were.
 
-use common::layout::{address, ADDRESSES, ADDRESS_END, FRAME_BYTES};
+use common::layout::{address, ADDRESSES, ADDRESS_END, FRAME_BYTES, FRAME_WORDS};
+use common::page_tables::{virtual_address, GUEST_END};
 use second::Call;
 
 use crate::random::Random;
@@ -15,13 +16,14 @@ pub enum Kind {
     Type,
     Index,
     Value,
+    Virtual,
 }
 
 /// The letters of the nine calls, as scripts have them.
 pub const LETTERS: [char; 9] = ['U', 'V', 'F', 'M', 'D', 'X', 'R', 'W', 'C'];
 
 /// Numbers on both sides of every boundary.
-const BOUNDARIES: [u64; 20] = [
+const BOUNDARIES: [u64; 22] = [
     0,
     1,
     2,
@@ -34,6 +36,8 @@ const BOUNDARIES: [u64; 20] = [
     1 << 16,
     1 << 32,
     1 << 44,
+    GUEST_END - FRAME_BYTES,
+    GUEST_END,
     ADDRESS_END - FRAME_BYTES,
     ADDRESS_END - 1,
     ADDRESS_END,
@@ -42,6 +46,22 @@ const BOUNDARIES: [u64; 20] = [
     1 << 63,
     u64::MAX - 4095,
     u64::MAX,
+];
+
+/// Virtual addresses at the ends of both halves, and what is just none.
+const VIRTUAL: [u64; 12] = [
+    0,
+    1,
+    0x800,
+    0x7fff_ffff_f000,
+    1 << 47,
+    GUEST_END - FRAME_BYTES,
+    GUEST_END,
+    0x7fff_8000_0000_0000,
+    1 << 63,
+    0xffff_7fff_ffff_f000,
+    0xffff_8000_0000_0000,
+    0xffff_ffff_ffff_f000,
 ];
 
 /// The numbers of a call, in the order of a script's line.
@@ -154,6 +174,16 @@ pub fn fitting(random: &mut Random, state: &State, kind: Kind) -> u64 {
         Kind::Type => random.pick(&[0, 0, 1, 1, 2, 2, 2, 3, 4]),
         Kind::Index => index(random),
         Kind::Value => value(random),
+        Kind::Virtual => any_virtual(random),
+    }
+}
+
+/// A virtual address, mostly one with few different indexes.
+fn any_virtual(random: &mut Random) -> u64 {
+    match random.below(3) {
+        0 => random.pick(&VIRTUAL),
+        1 => virtual_address([0; 4].map(|_| random.index(4))),
+        _ => virtual_address([0; 4].map(|_| random.index(FRAME_WORDS))),
     }
 }
 

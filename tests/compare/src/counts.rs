@@ -1,12 +1,14 @@
-//! What was accepted in histories: openings, merges and the like, the reads that the ledger has a claim about, and whole pages.
+//! What was accepted in histories: openings, merges and the like, the reads that the ledger has a claim about, whole pages, and what was
+//! made by virtual address.
 
 use std::collections::BTreeMap;
 use std::fmt;
 
 use common::layout::{frame_of, gpa_of, is_present};
-use second::{Answer, Call, Request};
+use second::{walk, Answer, Call, Mapping, Reached, Request, Virtual};
 
 use crate::monitor::Outcome;
+use crate::requests::virtual_address;
 use crate::state::State;
 
 /// What is counted. None may stay at zero.
@@ -26,10 +28,14 @@ enum Event {
     MovedRead,
     PageWritten,
     PageReadBack,
+    Walk,
+    OpenedByAddress,
+    ReadByAddress,
+    WrittenByAddress,
 }
 
 /// By the order of `Event`.
-const NAMES: [&str; 14] = [
+const NAMES: [&str; 18] = [
     "openings",
     "openings of an address that was opened before",
     "closings",
@@ -44,6 +50,10 @@ const NAMES: [&str; 14] = [
     "reads at an address that was opened once, of a page that was merged or unmerged",
     "whole pages written",
     "whole pages read with the words that were last written to them whole",
+    "walks",
+    "openings by virtual address",
+    "reads by virtual address, at a guest address that was opened once",
+    "writes by virtual address to a guest's page",
 ];
 
 #[derive(Default)]
@@ -64,13 +74,44 @@ pub struct Past {
 
 /// Whose place a PMERGE, PUNMERGE or PUNFIX moves, and whether that is the owner of the fixed page.
 #[derive(Clone, Copy)]
-pub struct Moved {
+struct Moved {
     holding: Holding,
     owner: bool,
 }
 
+/// What a request is about, by the state that it finds.
+#[derive(Clone, Copy)]
+pub struct About {
+    moved: Option<Moved>,
+    called: Option<Call>,
+}
+
+pub fn about(request: &Request, before: &State) -> About {
+    About {
+        moved: moved(request, before),
+        called: called(request, before),
+    }
+}
+
+/// The call that a request by virtual address makes in this state, if its walk gets to an end.
+#[rustfmt::skip]
+fn called(request: &Request, before: &State) -> Option<Call> {
+    let Virtual { caller, root, root_type, host_root, va } = virtual_address(request)?;
+    let State { table, memory } = before;
+    let found = walk(table, memory, caller, root, root_type, host_root, va).ok()?;
+    let Mapping { gpa, hpa, gtype, ntype } = found;
+    match *request {
+        Request::PvalidateVa { kind, .. } => Some(Call::Pvalidate { caller, gpa, hpa, kind }),
+        Request::ReadVa { index, .. } =>
+            Some(Call::Read { caller, gpa, hpa, gtype, ntype, index }),
+        Request::WriteVa { index, value, .. } =>
+            Some(Call::Write { caller, gpa, hpa, gtype, ntype, index, value }),
+        _ => None,
+    }
+}
+
 /// Whose place the request moves, if it is accepted in this state.
-pub fn moved(request: &Request, before: &State) -> Option<Moved> {
+fn moved(request: &Request, before: &State) -> Option<Moved> {
     let Request::Call(call) = request else {
         return None;
     };
@@ -102,16 +143,17 @@ pub fn moved(request: &Request, before: &State) -> Option<Moved> {
 
 impl Counts {
     /// Counts what a request brought.
-    pub fn note(
-        &mut self,
-        request: &Request,
-        outcome: &Outcome,
-        moved: Option<Moved>,
-        past: &mut Past,
-    ) {
+    pub fn note(&mut self, request: &Request, outcome: &Outcome, about: About, past: &mut Past) {
         match (request, outcome) {
             (Request::Call(call), &Outcome::Answered(answer)) => {
-                self.note_call(call, answer, moved, past);
+                self.note_call(call, answer, about.moved, past);
+            }
+            (_, Outcome::Mapped(found)) => self.add(Event::Walk, found.is_ok()),
+            (_, &Outcome::Reached(Reached { answer, .. })) => {
+                if let Some(call) = about.called {
+                    self.note_call(&call, answer, None, past);
+                    self.note_by_address(&call, answer, past);
+                }
             }
             (Request::PageWrite { hpa, words, .. }, Outcome::Answered(Answer::Done)) => {
                 past.pages.insert(*hpa, words.clone());
@@ -148,6 +190,22 @@ impl Counts {
                 let once = past.openings.get(&(caller, gpa)) == Some(&1);
                 self.add(Event::Read, once);
                 self.add(Event::MovedRead, once && past.moves.contains_key(&(caller, gpa)));
+            }
+            _ => {}
+        }
+    }
+
+    /// Counts what was made by virtual address.
+    fn note_by_address(&mut self, call: &Call, answer: Answer, past: &Past) {
+        match (*call, answer) {
+            (_, Answer::Opened) => self.add(Event::OpenedByAddress, true),
+            #[rustfmt::skip]
+            (Call::Read { caller, gpa, gtype: 1 | 2, .. }, Answer::Word(_)) => {
+                let once = past.openings.get(&(caller, gpa)) == Some(&1);
+                self.add(Event::ReadByAddress, once);
+            }
+            (Call::Write { gtype: 1 | 2, .. }, Answer::Done) => {
+                self.add(Event::WrittenByAddress, true);
             }
             _ => {}
         }

@@ -53,11 +53,16 @@ pub fn rules(random: &mut Random, state: &mut State) {
     for frame in 0..state.n() {
         if random.chance(80) {
             for _ in 0..random.pick(&[1, 1, 2]) {
-                let broken = random.pick(&BREAKS)(random, state, state.entry(frame));
+                let broken = broken(random, state, state.entry(frame));
                 state.put(frame, broken);
             }
         }
     }
+}
+
+/// The entry with one of its four rules broken, each as often as any other.
+pub fn broken(random: &mut Random, state: &State, entry: Entry) -> Entry {
+    random.pick(&BREAKS)(random, state, entry)
 }
 
 /// How an entry is made to break a rule.

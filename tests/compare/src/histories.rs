@@ -3,9 +3,10 @@
 
 use second::{Answer, Ledger, Reply, Request};
 
-use crate::counts::{moved, Counts, Past};
+use crate::counts::{about, Counts, Past};
 use crate::monitor::{Monitor, Outcome};
 use crate::pair::{Finding, Pair};
+use crate::plans;
 use crate::random::Random;
 use crate::report::Report;
 use crate::requests;
@@ -15,6 +16,9 @@ use crate::table::Table;
 
 /// The places of all guests are counted after so many requests, and at the end.
 const PLACES_EVERY: usize = 8;
+
+/// Of a hundred requests that come after no plan, so many begin one.
+const PLANS: u64 = 4;
 
 /// Makes this many requests of both monitors, in histories, and counts what they replied.
 pub fn compare(
@@ -58,13 +62,15 @@ fn run(
     let start = history.pair.states[0].clone();
     let mut requests = Vec::new();
     let mut past = Past::default();
+    let mut planned = Vec::new();
     for _ in 0..length {
-        let request = requests::guided(random, &history.pair.states[1], 15);
-        let moved = moved(&request, &history.pair.states[1]);
+        let state = &history.pair.states[1];
+        let request = next(random, state, &mut planned);
+        let about = about(&request, state);
         let step = history.step(&request);
         if let Ok(outcome) = &step {
             table.count(&request, outcome, &history.pair.states[1]);
-            counts.note(&request, outcome, moved, &mut past);
+            counts.note(&request, outcome, about, &mut past);
         }
         requests.push(request);
         if let Err(finding) = step {
@@ -73,6 +79,16 @@ fn run(
     }
     let end = history.end();
     end.map_err(|finding| report(monitors, Case { start, requests }, *finding))
+}
+
+/// The next request: of the plan, last first, if there is one.
+fn next(random: &mut Random, state: &State, planned: &mut Vec<Request>) -> Request {
+    if planned.is_empty() && random.chance(PLANS) {
+        *planned = plans::list(random, state);
+        planned.reverse();
+    }
+    let planned = planned.pop();
+    planned.unwrap_or_else(|| requests::guided(random, state, 15))
 }
 
 fn report(monitors: [&dyn Monitor; 2], case: Case, finding: Finding) -> Box<Report> {
@@ -114,8 +130,8 @@ impl<'a> History<'a> {
         let left = self.pair.make(0, request);
         let noted = match reply(request, &left) {
             Some(reply) => {
-                let before = &self.pair.states[1].memory;
-                self.ledger.note_request(request, reply, before)
+                let State { table, memory } = &self.pair.states[1];
+                self.ledger.note_request(request, reply, table, memory)
             }
             None => Err("a history makes no monitor panic".to_owned()),
         };
@@ -161,5 +177,7 @@ fn reply<'a>(request: &Request, outcome: &'a Outcome) -> Option<Reply<'a>> {
             Some(Reply::Page(&[]))
         }
         (_, &Outcome::Answered(answer)) => Some(Reply::Answer(answer)),
+        (_, &Outcome::Mapped(mapping)) => Some(Reply::Mapping(mapping)),
+        (_, &Outcome::Reached(reached)) => Some(Reply::Reached(reached)),
     }
 }

@@ -5,9 +5,11 @@ use std::ops::Range;
 use std::panic::{self, AssertUnwindSafe};
 use std::sync::Once;
 
-use common::answer::translated;
-use second::{page_check, page_read, Answer, Call, Reply, Request};
+use common::answer::{translated, translated_mapping, translated_reached};
+use second::{page_check, page_read, Answer, Call, Mapping, Reached, Refusal, Reply};
+use second::{Request, Virtual};
 
+use crate::requests::virtual_address;
 use crate::state::State;
 
 /// A monitor: it takes requests on a table and a memory that it is lent.
@@ -29,6 +31,8 @@ pub struct Second;
 pub enum Outcome {
     Answered(Answer),
     Handed(Part),
+    Mapped(Result<Mapping, Refusal>),
+    Reached(Reached),
     Panicked,
 }
 
@@ -36,7 +40,11 @@ impl Outcome {
     /// Number and reason, if it is a refusal.
     pub fn refusal(&self) -> Option<(u8, u8)> {
         match *self {
-            Self::Answered(Answer::Refused { number, reason }) => Some((number, reason)),
+            Self::Mapped(Err(refusal)) => Some((refusal.number(), refusal.reason())),
+            Self::Answered(answer) | Self::Reached(Reached { answer, .. }) => match answer {
+                Answer::Refused { number, reason } => Some((number, reason)),
+                _ => None,
+            },
             _ => None,
         }
     }
@@ -73,8 +81,28 @@ impl Monitor for Proved {
                 skorbilek::page_write(table, memory, caller, gpa, hpa, words),
             Request::PageCheck { caller, gpa, hpa } =>
                 skorbilek::page_check(table, memory, caller, gpa, hpa),
+            _ => return proved_by_address(request, table, memory),
         }))
     }
+}
+
+/// A call by virtual address by the library.
+#[rustfmt::skip]
+fn proved_by_address<'m>(request: &Request, table: &mut [u64], memory: &mut [u64]) -> Reply<'m> {
+    let at = virtual_address(request).expect("every other request names a virtual address");
+    let Virtual { caller, root, root_type, host_root, va } = at;
+    Reply::Reached(translated_reached(match *request {
+        Request::PvalidateVa { kind, .. } =>
+            skorbilek::pvalidate_va(table, memory, caller, root, root_type, host_root, va, kind),
+        Request::ReadVa { index, .. } =>
+            skorbilek::read_va(table, memory, caller, root, root_type, host_root, va, index),
+        Request::WriteVa { index, value, .. } =>
+            skorbilek::write_va(table, memory, caller, root, root_type, host_root, va, index, value),
+        _ => {
+            let found = skorbilek::walk(table, memory, caller, root, root_type, host_root, va);
+            return Reply::Mapping(translated_mapping(found));
+        }
+    }))
 }
 
 /// A call by the library.
@@ -137,6 +165,8 @@ pub fn make(monitor: &dyn Monitor, request: &Request, state: &mut State) -> Outc
             start: place(lent, words),
             words: words.to_vec(),
         }),
+        Reply::Mapping(mapping) => Outcome::Mapped(mapping),
+        Reply::Reached(reached) => Outcome::Reached(reached),
     });
     made.unwrap_or(Outcome::Panicked)
 }

@@ -148,7 +148,7 @@ fn line(
     name: &str,
     cells: impl IntoIterator<Item = impl fmt::Display>,
 ) -> fmt::Result {
-    write!(f, "{name:10} ")?;
+    write!(f, "{name:12} ")?;
     for cell in cells {
         write!(f, " {cell:>7}")?;
     }

@@ -3,7 +3,7 @@
 use std::fmt;
 
 use common::layout::FRAME_WORDS;
-use second::Answer;
+use second::{Answer, Mapping, Reached};
 
 use crate::monitor::{Monitor, Outcome, Part};
 use crate::pair::Finding;
@@ -115,6 +115,9 @@ fn said(outcome: &Outcome) -> String {
     match outcome {
         Outcome::Answered(answer) => answered(*answer),
         Outcome::Handed(part) => handed(part),
+        Outcome::Mapped(Ok(mapping)) => mapped(*mapping),
+        Outcome::Mapped(Err(refusal)) => answered((*refusal).into()),
+        Outcome::Reached(reached) => named(*reached),
         Outcome::Panicked => "panicked".to_owned(),
     }
 }
@@ -124,6 +127,20 @@ fn handed(part: &Part) -> String {
     match part.start {
         Some(start) => format!("hands back {length} words from {} on", place(false, start)),
         None => format!("hands back {length} words that are no part of memory"),
+    }
+}
+
+fn mapped(mapping: Mapping) -> String {
+    #[rustfmt::skip]
+    let Mapping { gpa, hpa, gtype, ntype } = mapping;
+    format!("finds guest address {gpa:x}, frame {hpa:x}, types {gtype:x} and {ntype:x}")
+}
+
+fn named(reached: Reached) -> String {
+    let Reached { answer, gpa } = reached;
+    match (answer, gpa) {
+        (Answer::Refused { .. }, 0) => answered(answer),
+        _ => format!("{}, at guest address {gpa:x}", answered(answer)),
     }
 }
 

@@ -1,24 +1,30 @@
-//! A request: one of the nine calls, or one for a whole page. Its numbers, as a list; and requests for the state at hand.
+//! A request: one of the nine calls, one for a whole page, or one by virtual address. Its numbers, as a list; and requests for the state at
+//! hand.
 
 use std::fmt;
 
 use common::layout::address;
-use second::Request;
+use second::{Request, Virtual};
 
 use crate::arguments::{self, Kind};
 use crate::guided;
 use crate::pages;
 use crate::random::Random;
 use crate::state::State;
+use crate::walks;
 
 /// Of a hundred requests, so many are for a whole page.
 const PAGES: u64 = 10;
+/// Of a hundred requests that have any numbers, so many are by virtual address.
+const WALKS: u64 = 15;
+const BY_ADDRESS: u64 = PAGES + WALKS;
 
 /// How many words of a page are printed.
 const PRINTED: usize = 8;
 
-/// The letters and names of all requests: the nine calls, as scripts have them, and whole pages, which scripts do not know.
-pub const NAMES: [(char, &str); 12] = [
+/// The letters and names of all requests: the nine calls, as scripts have them, and whole pages and calls by virtual address, which scripts
+/// do not know.
+pub const NAMES: [(char, &str); 16] = [
     ('U', "RMPUPDATE"),
     ('V', "PVALIDATE"),
     ('F', "PFIX"),
@@ -31,6 +37,10 @@ pub const NAMES: [(char, &str); 12] = [
     ('r', "page_read"),
     ('w', "page_write"),
     ('c', "page_check"),
+    ('k', "walk"),
+    ('v', "pvalidate_va"),
+    ('l', "read_va"),
+    ('s', "write_va"),
 ];
 
 /// A request as it is printed.
@@ -43,6 +53,21 @@ pub fn letter(request: &Request) -> char {
         Request::PageRead { .. } => 'r',
         Request::PageWrite { .. } => 'w',
         Request::PageCheck { .. } => 'c',
+        Request::Walk(_) => 'k',
+        Request::PvalidateVa { .. } => 'v',
+        Request::ReadVa { .. } => 'l',
+        Request::WriteVa { .. } => 's',
+    }
+}
+
+/// The virtual address that a request names, if it names one.
+pub fn virtual_address(request: &Request) -> Option<Virtual> {
+    match *request {
+        Request::Walk(at)
+        | Request::PvalidateVa { at, .. }
+        | Request::ReadVa { at, .. }
+        | Request::WriteVa { at, .. } => Some(at),
+        _ => None,
     }
 }
 
@@ -50,7 +75,10 @@ pub fn letter(request: &Request) -> char {
 pub fn kinds(request: &Request) -> &'static [Kind] {
     match request {
         Request::Call(call) => arguments::kinds(call.letter()),
-        _ => &pages::KINDS,
+        Request::PageRead { .. } | Request::PageWrite { .. } | Request::PageCheck { .. } => {
+            &pages::KINDS
+        }
+        _ => walks::kinds(request),
     }
 }
 
@@ -61,6 +89,7 @@ pub fn numbers(request: &Request) -> Vec<u64> {
         Request::PageRead { caller, gpa, hpa }
         | Request::PageWrite { caller, gpa, hpa, .. }
         | Request::PageCheck { caller, gpa, hpa } => vec![caller, gpa, hpa],
+        _ => walks::numbers(request),
     }
 }
 
@@ -73,15 +102,23 @@ pub fn with_numbers(request: &Request, numbers: &[u64]) -> Request {
         (Request::PageCheck { .. }, &[caller, gpa, hpa]) => Request::PageCheck { caller, gpa, hpa },
         (Request::PageWrite { words, .. }, &[caller, gpa, hpa]) =>
             Request::PageWrite { caller, gpa, hpa, words: words.clone() },
-        _ => panic!("no request for a page has {} numbers", numbers.len()),
+        _ => walks::with_numbers(request, numbers),
     }
+}
+
+/// The request with one of its numbers changed, or two or three.
+pub fn distorted(random: &mut Random, state: &State, request: &Request) -> Request {
+    let mut numbers = numbers(request);
+    arguments::distort(random, state, kinds(request), &mut numbers);
+    with_numbers(request, &numbers)
 }
 
 /// Any request, with numbers that fit their kinds by and large.
 pub fn any(random: &mut Random, state: &State) -> Request {
-    match random.chance(PAGES) {
-        true => pages::any(random, state),
-        false => Request::Call(arguments::any(random, state)),
+    match random.below(100) {
+        0..PAGES => pages::any(random, state),
+        PAGES..BY_ADDRESS => walks::any(random, state),
+        _ => Request::Call(arguments::any(random, state)),
     }
 }
 
@@ -117,8 +154,18 @@ impl fmt::Display for Shown<'_> {
                 write!(f, "page_write {caller:x} {gpa:x} {hpa:x}, {} words", words.len())?;
                 print_words(f, words)
             }
+            _ => print_numbers(f, self.0),
         }
     }
+}
+
+/// The name and the numbers of a request.
+fn print_numbers(f: &mut fmt::Formatter<'_>, request: &Request) -> fmt::Result {
+    let row = NAMES.iter().find(|(call, _)| *call == letter(request));
+    let (_, name) = row.expect("every request has a name");
+    write!(f, "{name}")?;
+    let mut numbers = numbers(request).into_iter();
+    numbers.try_for_each(|number| write!(f, " {number:x}"))
 }
 
 /// The words of a page that are not zero.
@@ -136,7 +183,6 @@ fn print_words(f: &mut fmt::Formatter<'_>, words: &[u64]) -> fmt::Result {
 #[cfg(test)]
 mod tests {
     use super::*;
-    use crate::arguments::LETTERS;
 
     #[test]
     fn a_request_is_its_letter_and_numbers() {
@@ -152,7 +198,7 @@ mod tests {
             let other: Vec<u64> = kinds(&request).iter().map(|_| random.word()).collect();
             assert_eq!(numbers(&with_numbers(&request, &other)), other);
         }
-        for letter in LETTERS.into_iter().chain(['r', 'w', 'c']) {
+        for letter in NAMES.map(|(letter, _)| letter) {
             assert!(met.contains(&letter), "{letter}");
         }
     }
@@ -170,5 +216,18 @@ mod tests {
         let request = Request::PageWrite { caller, gpa, hpa, words: vec![1; 511] };
         let shown = Shown(&request).to_string();
         assert!(shown.contains("511 words, [0] = 1") && shown.ends_with("[7] = 1 and 503 more"));
+    }
+
+    #[test]
+    fn a_call_by_virtual_address_is_printed_by_its_numbers() {
+        let [caller, root, root_type, host_root, va] = [7, 0x51000, 1, 0, 0x3000];
+        #[rustfmt::skip]
+        let at = Virtual { caller, root, root_type, host_root, va };
+        let (index, value) = (3, 0x2a);
+        let request = Request::WriteVa { at, index, value };
+        assert_eq!(
+            Shown(&request).to_string(),
+            "write_va 7 51000 1 0 3000 3 2a"
+        );
     }
 }

@@ -1,6 +1,8 @@
-//! Part (b): requests through the library, on states of every kind. Each state is used for a while, so that damaged ones go on changing.
+//! Part (b): requests through the library, on states of every kind, those with page tables among them. Each state is used for a while, so
+//! that damaged ones go on changing.
 
 use crate::monitor::{make, Monitor};
+use crate::page_tables::{self, Built};
 use crate::pair::{Finding, Pair};
 use crate::random::Random;
 use crate::report::Report;
@@ -9,7 +11,11 @@ use crate::shrink::Case;
 use crate::state::State;
 use crate::states;
 use crate::table::Table;
+use crate::walks;
 
+/// Of a hundred small states, so many have page tables; and there, of a hundred requests, so many are by virtual address.
+const TABLES: u64 = 20;
+const WALKS: u64 = 80;
 /// After so many calls comes a large state, for so many calls.
 const LARGE_EVERY: u64 = 40_000;
 const LARGE_CALLS: u64 = 12;
@@ -27,9 +33,15 @@ pub fn compare(
         let (start, length) = if made >= LARGE_EVERY * (large + 1) {
             let size = states::LARGE[large as usize % states::LARGE.len()];
             large += 1;
-            (states::large(&mut random, size), LARGE_CALLS)
+            (
+                without_tables(states::large(&mut random, size)),
+                LARGE_CALLS,
+            )
+        } else if random.chance(TABLES) {
+            (page_tables::built(&mut random), 4 + random.below(30))
         } else {
-            (states::small(&mut random), 4 + random.below(60))
+            let state = states::small(&mut random);
+            (without_tables(state), 4 + random.below(60))
         };
         let length = length.min(calls - made);
         run(monitors, start, length, &mut random, table)?;
@@ -38,10 +50,15 @@ pub fn compare(
     Ok(())
 }
 
+fn without_tables(state: State) -> Built {
+    let at = Vec::new();
+    Built { state, at }
+}
+
 /// Makes requests on one state.
 fn run(
     monitors: [&dyn Monitor; 2],
-    start: State,
+    Built { state: start, at }: Built,
     length: u64,
     random: &mut Random,
     table: &mut Table,
@@ -51,6 +68,7 @@ fn run(
     for _ in 0..length {
         let state = &pair.states[1];
         let request = match random.below(100) {
+            0..WALKS if !at.is_empty() => walks::guided(random, state, &at, 40),
             0..=11 => requests::any(random, state),
             12..=20 => requests::of_two_frames(random, state),
             _ => requests::guided(random, state, 40),

@@ -59,7 +59,7 @@ pub fn large(random: &mut Random, (n, m): (usize, usize)) -> State {
 }
 
 /// Lengths that no monitor accepts.
-fn missize(random: &mut Random, state: &mut State) {
+pub fn missize(random: &mut Random, state: &mut State) {
     let (t, w) = (state.table.len(), state.memory.len());
     let (n, m) = (state.n(), state.m());
     match random.below(9) {

@@ -10,33 +10,40 @@ use crate::reasons::Reasons;
 use crate::requests::{self, NAMES};
 use crate::state::State;
 
-/// Which calls can be accepted, and be refused with 1 to 17: docs/CALLS.md, 'Refusals', the column 'Can be given by'. The small letters
-/// are whole pages, whose access is SHARED: any party may make it, and nothing is asked of a page of a guest.
-pub const REACHABLE: [&str; 18] = [
-    "UVFMDXRWCrwc", // accepted
-    "UVFMDXRWCrwc", // 1, GEOMETRY
-    "UVFMDXRWCrwc", // 2, ARGUMENT
-    "UVFMDXRW",     // 3, CALLER
-    "UVFMDXRWrwc",  // 4, OUTSIDE
-    "UVFMDXRWCrwc", // 5, BAD ENTRY
-    "UVFMDXRWrwc",  // 6, TYPE
-    "VRW",          // 7, OWNER
-    "VRW",          // 8, ADDRESS
-    "FMRW",         // 9, NOT VALIDATED
-    "UVFMW",        // 10, FIXED
-    "MDX",          // 11, NOT FIXED
-    "MDXRC",        // 12, BROKEN LEAF
-    "DR",           // 13, NO PLACE
-    "M",            // 14, PLACE TAKEN
-    "F",            // 15, LEAF IN USE
-    "M",            // 16, CONTENTS
-    "X",            // 17, STILL SHARED
+/// Which calls can be accepted, and be refused with 1 to 19: docs/CALLS.md, 'Refusals', the column 'Can be given by'. The letters r, w and c
+/// are whole pages, whose access is SHARED: any party may make it, and nothing is asked of a page of a guest. The letters k, v, l and s are
+/// the calls by virtual address: each can be given what a READ can on the way, and v and s what PVALIDATE and WRITE can at its end.
+pub const REACHABLE: [&str; 20] = [
+    "UVFMDXRWCrwckvls", // accepted
+    "UVFMDXRWCrwckvls", // 1, GEOMETRY
+    "UVFMDXRWCrwckvls", // 2, ARGUMENT
+    "UVFMDXRWkvls",     // 3, CALLER
+    "UVFMDXRWrwckvls",  // 4, OUTSIDE
+    "UVFMDXRWCrwckvls", // 5, BAD ENTRY
+    "UVFMDXRWrwckvls",  // 6, TYPE
+    "VRWkvls",          // 7, OWNER
+    "VRWkvls",          // 8, ADDRESS
+    "FMRWkvls",         // 9, NOT VALIDATED
+    "UVFMWvs",          // 10, FIXED
+    "MDX",              // 11, NOT FIXED
+    "MDXRCkvls",        // 12, BROKEN LEAF
+    "DRkvls",           // 13, NO PLACE
+    "M",                // 14, PLACE TAKEN
+    "F",                // 15, LEAF IN USE
+    "M",                // 16, CONTENTS
+    "X",                // 17, STILL SHARED
+    "kvls",             // 18, ABSENT ENTRY
+    "kvls",             // 19, LARGE PAGE
 ];
+
+/// The greatest number of a refusal, and the column for numbers that no refusal has.
+const LAST: usize = REACHABLE.len() - 1;
+const OTHER: usize = REACHABLE.len();
 
 /// Counts by call and column: accepted, then the refusals by number. The last column is for numbers that no refusal has.
 #[derive(Default)]
 pub struct Table {
-    counts: [[u64; 19]; NAMES.len()],
+    counts: [[u64; OTHER + 1]; NAMES.len()],
     reasons: Reasons,
 }
 
@@ -48,8 +55,8 @@ impl Table {
     /// Counts what both monitors replied. A refusal left this state as it was.
     pub fn count(&mut self, request: &Request, outcome: &Outcome, state: &State) {
         let column = match (outcome, outcome.refusal()) {
-            (Outcome::Panicked, _) => 18,
-            (_, Some((number, _))) => usize::from(number).clamp(1, 18),
+            (Outcome::Panicked, _) => OTHER,
+            (_, Some((number, _))) => usize::from(number).clamp(1, OTHER),
             (_, None) => 0,
         };
         self.add(requests::letter(request), column);
@@ -67,8 +74,8 @@ impl Table {
             None if rest.starts_with(b" ok") => 0,
             None => return false,
             Some(digits) => match std::str::from_utf8(digits).map(str::parse::<usize>) {
-                Ok(Ok(number)) => number.clamp(1, 18),
-                _ => 18,
+                Ok(Ok(number)) => number.clamp(1, OTHER),
+                _ => OTHER,
             },
         };
         let letter = char::from(letter);
@@ -106,7 +113,7 @@ impl Table {
             for (column, &count) in counts.iter().enumerate() {
                 let cell = match column {
                     0 => format!("{name} accepted"),
-                    18 => format!("{name} with a number that no refusal has"),
+                    OTHER => format!("{name} with a number that no refusal has"),
                     number => format!("{name} refused with {number}"),
                 };
                 match (reachable(*letter, column), count) {
@@ -128,14 +135,14 @@ fn reachable(letter: char, column: usize) -> bool {
 
 impl fmt::Display for Table {
     fn fmt(&self, f: &mut fmt::Formatter<'_>) -> fmt::Result {
-        write!(f, "{:10} {:>8}", "", "accepted")?;
-        for number in 1..=17 {
+        write!(f, "{:12} {:>8}", "", "accepted")?;
+        for number in 1..=LAST {
             write!(f, " {number:>7}")?;
         }
         writeln!(f)?;
         for ((letter, name), counts) in NAMES.iter().zip(&self.counts) {
-            write!(f, "{name:10}")?;
-            for (column, count) in counts.iter().enumerate().take(18) {
+            write!(f, "{name:12}")?;
+            for (column, count) in counts.iter().enumerate().take(OTHER) {
                 let width = if column == 0 { 8 } else { 7 };
                 match (reachable(*letter, column), count) {
                     (false, 0) => write!(f, " {:>width$}", ".")?,

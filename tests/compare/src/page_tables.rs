@@ -1,0 +1,270 @@
+//! States with page tables of a host and of a guest, in which walks get to their end; and what can be wrong on the way.
+
+use common::layout::{
+    address, frame_of, present, word_at, Entry, ADDRESS_END, FRAME_BYTES, FRAME_WORDS, LEAF,
+    MERGEABLE, PRIVATE, SHARED,
+};
+use common::page_tables::{
+    entry, index, virtual_address, with_address, with_kind, GUEST_END, IGNORED, LARGE, LEVELS,
+    PRESENT,
+};
+use second::Virtual;
+
+use crate::damage;
+use crate::random::Random;
+use crate::state::State;
+use crate::states;
+
+/// A state, and virtual addresses that its page tables are about.
+pub struct Built {
+    pub state: State,
+    pub at: Vec<Virtual>,
+}
+
+/// A page of the guest, and what its type is to it.
+#[derive(Clone, Copy)]
+struct Page {
+    gpa: u64,
+    frame: usize,
+    kind: u64,
+}
+
+struct Builder<'a> {
+    random: &'a mut Random,
+    state: State,
+    caller: u64,
+    /// The frames that nothing is in yet.
+    free: Vec<usize>,
+    /// The frames of the host's tables, from the top down; one may have several levels.
+    host: [usize; 4],
+    /// Where the entries of the page tables are in memory.
+    entries: Vec<usize>,
+}
+
+/// A small state with page tables. The tables are right as often as not.
+pub fn built(random: &mut Random) -> Built {
+    let n = 3 + random.index(8);
+    let mut builder = Builder::new(random, n);
+    let count = 1 + builder.random.index(4);
+    let pages: Vec<Page> = (0..count).map(|_| builder.page()).collect();
+    let count = 1 + builder.random.index(3);
+    let at = (0..count).map(|_| builder.way(&pages)).collect();
+    for _ in 0..builder.random.pick(&[0, 0, 0, 1, 1, 2]) {
+        builder.spoil();
+    }
+    let mut state = builder.state;
+    if random.chance(3) {
+        states::missize(random, &mut state);
+    }
+    Built { state, at }
+}
+
+impl<'a> Builder<'a> {
+    /// No page yet, and the host's tables in a frame or two, which may be above N.
+    fn new(random: &'a mut Random, n: usize) -> Self {
+        let m = n + random.index(4);
+        let mut free: Vec<usize> = (0..m).collect();
+        for place in 1..m {
+            free.swap(place, random.index(place + 1));
+        }
+        let tables = free.split_off(m - random.pick(&[1, 1, 2, 3]));
+        Self {
+            state: State::zero(n, m),
+            caller: random.pick(&[1, 2, 7, 511]),
+            free,
+            host: [0; 4].map(|_| random.pick(&tables)),
+            entries: Vec::new(),
+            random,
+        }
+    }
+
+    /// A frame that nothing is in: one that has an entry, if that is asked for.
+    fn take(&mut self, with_entry: bool) -> Option<usize> {
+        let n = self.state.n();
+        let place = self
+            .free
+            .iter()
+            .position(|&frame| frame < n || !with_entry)?;
+        Some(self.free.swap_remove(place))
+    }
+
+    /// A new page, which the host's tables have; a SHARED one where there is no other frame.
+    fn page(&mut self) -> Page {
+        let gpa = self.guest_address();
+        let kinds = [SHARED, PRIVATE, PRIVATE, MERGEABLE, MERGEABLE];
+        let kind = self.random.pick(&kinds);
+        let page = match self.take(kind != SHARED) {
+            Some(frame) => Page { gpa, frame, kind },
+            None => Page {
+                gpa,
+                frame: self.host[0],
+                kind: SHARED,
+            },
+        };
+        if page.kind != SHARED {
+            self.give(page);
+        }
+        self.map(page);
+        page
+    }
+
+    fn guest_address(&mut self) -> u64 {
+        match self.random.below(8) {
+            0 => self.random.pick(&[0, GUEST_END - FRAME_BYTES]),
+            1 => self.random.below(8) * FRAME_BYTES,
+            _ => self.random.below(GUEST_END / FRAME_BYTES) * FRAME_BYTES,
+        }
+    }
+
+    /// Makes the frame the guest's page: open, mostly, and now and then a merged one.
+    fn give(&mut self, page: Page) {
+        let closed = Entry::closed(self.caller, page.kind, page.gpa);
+        let validated = self.random.chance(85);
+        let unfixed = Entry {
+            validated,
+            ..closed
+        };
+        self.state.put(page.frame, unfixed);
+        if page.kind == MERGEABLE && self.random.chance(40) {
+            if let Some(leaf) = self.take(true) {
+                self.fix(page, leaf);
+            }
+        }
+    }
+
+    /// Makes the page a fixed one, the guest's or another's, in which the guest has its place.
+    fn fix(&mut self, page: Page, leaf: usize) {
+        let owner = self.random.pick(&[self.caller, 7, 9]);
+        self.state
+            .put(page.frame, Entry::fixed(owner, address(leaf)));
+        self.state.put(leaf, Entry::LEAF);
+        self.state.memory[word_at(leaf, owner as usize)] = present(0x50000);
+        self.state.memory[word_at(leaf, self.caller as usize)] = present(page.gpa);
+    }
+
+    /// Puts the page into the host's tables. The types above the last level are any.
+    fn map(&mut self, page: Page) {
+        for (place, level) in LEVELS.into_iter().enumerate() {
+            let word = match self.host.get(place + 1) {
+                Some(&below) => entry(address(below), self.random.below(4)),
+                None => entry(address(page.frame), page.kind),
+            };
+            self.put(self.host[place], index(page.gpa, level), word, level);
+        }
+    }
+
+    /// Puts one of the pages at a virtual address, by tables in any of them.
+    fn way(&mut self, pages: &[Page]) -> Virtual {
+        let tables = [0; 4].map(|_| self.random.pick(pages));
+        let page = self.random.pick(pages);
+        let va = match self.random.below(6) {
+            0 => self
+                .random
+                .pick(&[0, 0x7fff_ffff_f000, 0xffff_8000_0000_0000]),
+            _ => virtual_address([0; 4].map(|_| self.random.index(FRAME_WORDS))),
+        };
+        for (place, level) in LEVELS.into_iter().enumerate() {
+            let below = tables.get(place + 1).unwrap_or(&page);
+            let word = entry(below.gpa, below.kind);
+            self.put(tables[place].frame, index(va, level), word, level);
+        }
+        Virtual {
+            caller: self.caller,
+            root: tables[0].gpa,
+            root_type: tables[0].kind,
+            host_root: address(self.host[0]),
+            va,
+        }
+    }
+
+    /// Puts an entry into a table, now and then with bits that are ignored.
+    fn put(&mut self, frame: usize, index: usize, mut word: u64, level: u32) {
+        if self.random.chance(30) {
+            word |= self.random.word() & IGNORED;
+        }
+        if level == LEVELS[3] && self.random.chance(10) {
+            word |= LARGE;
+        }
+        let position = word_at(frame, index);
+        self.state.memory[position] = word;
+        self.entries.push(position);
+    }
+
+    /// Makes something wrong.
+    fn spoil(&mut self) {
+        match self.random.below(10) {
+            0..=4 => self.spoil_entry(),
+            5..=7 => self.spoil_frame(),
+            8 => self.spoil_place(),
+            _ => damage::one(self.random, &mut self.state),
+        }
+    }
+
+    /// An entry of a page table becomes absent, a large page, of another type, at another address, or any word.
+    fn spoil_entry(&mut self) {
+        let position = self.random.pick(&self.entries);
+        let word = self.state.memory[position];
+        let (n, m) = (self.state.n(), self.state.m());
+        let any = address(self.random.index(m));
+        let ends = [
+            GUEST_END,
+            GUEST_END - FRAME_BYTES,
+            ADDRESS_END - FRAME_BYTES,
+        ];
+        self.state.memory[position] = match self.random.below(9) {
+            0 | 1 => word ^ PRESENT,
+            2 | 3 => word ^ LARGE,
+            4 => with_kind(word, LEAF),
+            5 => with_kind(word, self.random.below(4)),
+            6 => with_address(word, self.random.pick(&ends)),
+            7 => with_address(word, self.random.pick(&[address(n), address(m), any])),
+            _ => self.random.word() | PRESENT,
+        };
+    }
+
+    /// A frame with an entry becomes another guest's, SHARED, a LEAF, or one whose entry is not well formed; or its page is another.
+    fn spoil_frame(&mut self) {
+        let frame = self.random.index(self.state.n());
+        let used = frame_of(address(
+            self.random.pick(&self.entries) as usize / FRAME_WORDS,
+        ));
+        let frame = if used < self.state.n() { used } else { frame };
+        let entry = self.state.entry(frame);
+        let (caller, kind) = (self.caller, self.random.pick(&[PRIVATE, MERGEABLE]));
+        let spoilt = match self.random.below(9) {
+            0..=2 => damage::broken(self.random, &self.state, entry),
+            3 => self.random.pick(&[Entry::LEAF, Entry::SHARED]),
+            4 => Entry { asid: 9, ..entry },
+            5 => {
+                let address = entry.address ^ FRAME_BYTES;
+                Entry { address, ..entry }
+            }
+            6 => {
+                let validated = false;
+                Entry { validated, ..entry }
+            }
+            7 => Entry { kind, ..entry },
+            _ => Entry::closed(caller, kind, entry.address).open(),
+        };
+        self.state.put(frame, spoilt);
+    }
+
+    /// The guest's word in a leaf becomes absent, misshapen, or one with another address.
+    fn spoil_place(&mut self) {
+        let Some(page) = self.random.try_pick(&self.state.roles().fixed) else {
+            return self.spoil_entry();
+        };
+        let leaf = frame_of(self.state.entry(page).address);
+        let words = [
+            0,
+            0x50000,
+            present(2),
+            present(ADDRESS_END),
+            present(0x51000),
+        ];
+        let word = self.random.pick(&words);
+        if let Some(words) = self.state.frame_mut(leaf) {
+            words[self.caller as usize] = word;
+        }
+    }
+}
