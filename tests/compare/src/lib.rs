@@ -8,6 +8,7 @@
 pub mod arguments;
 pub mod counts;
 mod damage;
+mod drop_frames;
 mod guided;
 pub mod histories;
 pub mod monitor;

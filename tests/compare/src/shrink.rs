@@ -1,13 +1,11 @@
 //! Makes a case that shows a fault as small as can be found: whatever can go while the fault stays, goes.
 
-use std::ops::Range;
-
-use common::layout::{address, entry_at, frame_at, frame_of, Entry, ENTRY_WORDS, FRAME_WORDS};
+use common::layout::{ENTRY_WORDS, FRAME_WORDS};
 use second::Request;
 
-use crate::arguments::Kind;
+use crate::drop_frames::drop_frames;
 use crate::pair::Finding;
-use crate::requests::{kinds, numbers, with_numbers};
+use crate::requests::{numbers, with_numbers};
 use crate::state::State;
 
 /// Requests that are made in order, from this state on.
@@ -218,70 +216,6 @@ fn clear_bits(case: &mut Case, part: impl Fn(&mut Case) -> &mut Vec<u64>, check:
         }
     }
     smaller
-}
-
-/// Takes out frames that have an entry; those above move down, and are named by their new addresses.
-fn drop_frames(case: &mut Case, check: &Check) -> bool {
-    let frames: Vec<usize> = (0..case.start.n()).collect();
-    // where sizes have to be large, every try is slow: then a few have to do
-    let mut tries = if frames.len() > 64 { 8 } else { u32::MAX };
-    let kept = fewest(&frames, |kept| {
-        tries = tries.saturating_sub(1);
-        tries > 0 && check(&restricted(case, kept)).is_some()
-    });
-    let smaller = kept.len() < frames.len();
-    if smaller {
-        *case = restricted(case, &kept);
-    }
-    smaller
-}
-
-/// The case with these frames alone, of those that have an entry.
-fn restricted(case: &Case, kept: &[usize]) -> Case {
-    let (n, m) = (case.start.n(), case.start.m());
-    let renamed = |hpa: u64| match frame_of(hpa) {
-        frame if (n..=m + 1).contains(&frame) => hpa - address(n - kept.len()),
-        frame => kept
-            .binary_search(&frame)
-            .map_or(hpa, |place| hpa - address(frame - place)),
-    };
-    let mut start = State {
-        table: kept_words(&case.start.table, entry_at, kept, n),
-        memory: kept_words(&case.start.memory, frame_at, kept, n),
-    };
-    for frame in 0..start.n() {
-        let entry = start.entry(frame);
-        if entry.fixed {
-            let address = renamed(entry.address);
-            start.put(frame, Entry { address, ..entry });
-        }
-    }
-    let requests = case
-        .requests
-        .iter()
-        .map(|request| with_frames(request, renamed))
-        .collect();
-    Case { start, requests }
-}
-
-/// The words of these frames, as many as there are, and all words from frame N on.
-fn kept_words(words: &[u64], at: fn(usize) -> Range<usize>, kept: &[usize], n: usize) -> Vec<u64> {
-    let end = words.len();
-    let part = |place: Range<usize>| &words[place.start.min(end)..place.end.min(end)];
-    let frames = kept.iter().map(|&frame| part(at(frame)));
-    let rest = part(at(n).start..end);
-    frames.chain([rest]).flatten().copied().collect()
-}
-
-/// The request with the addresses of frames changed.
-fn with_frames(request: &Request, renamed: impl Fn(u64) -> u64) -> Request {
-    let mut numbers = numbers(request);
-    for (number, &kind) in numbers.iter_mut().zip(kinds(request)) {
-        if kind == Kind::Frame {
-            *number = renamed(*number);
-        }
-    }
-    with_numbers(request, &numbers)
 }
 
 /// Puts smaller numbers in the place of each number of the requests: first wherever it stands, then in one place alone.

@@ -249,7 +249,7 @@ fn replies_that_no_page_can_have() {
         "page_check is the host's alone (3)",
     ] {
         let fault = pages::FAULTS.iter().find(|fault| fault.name == name);
-        is_found(fault.expect("a fault of this name"), "no such answer");
+        is_found(fault.expect("a fault of this name"), "no answer to this");
     }
 }
 

@@ -11,3 +11,4 @@ mod reasons;
 mod refusals;
 mod scripts;
 mod tables;
+mod walks;
