@@ -5,7 +5,7 @@ use std::collections::BTreeMap;
 use std::fmt;
 
 use common::layout::{frame_of, gpa_of, is_present};
-use second::{walk, Answer, Call, Mapping, Reached, Request, Virtual};
+use second::{host_half, walk, Answer, Call, Mapping, Reached, Request, Virtual};
 
 use crate::monitor::Outcome;
 use crate::requests::virtual_address;
@@ -32,10 +32,11 @@ enum Event {
     OpenedByAddress,
     ReadByAddress,
     WrittenByAddress,
+    ByFixedTable,
 }
 
 /// By the order of `Event`.
-const NAMES: [&str; 18] = [
+const NAMES: [&str; 19] = [
     "openings",
     "openings of an address that was opened before",
     "closings",
@@ -54,6 +55,7 @@ const NAMES: [&str; 18] = [
     "openings by virtual address",
     "reads by virtual address, at a guest address that was opened once",
     "writes by virtual address to a guest's page",
+    "walks and calls by virtual address with the guest's top table in a fixed page",
 ];
 
 #[derive(Default)]
@@ -84,13 +86,24 @@ struct Moved {
 pub struct About {
     moved: Option<Moved>,
     called: Option<Call>,
+    /// The guest's top table is in a fixed page.
+    by_fixed_table: bool,
 }
 
 pub fn about(request: &Request, before: &State) -> About {
     About {
         moved: moved(request, before),
         called: called(request, before),
+        by_fixed_table: by_fixed_table(request, before).unwrap_or(false),
     }
+}
+
+fn by_fixed_table(request: &Request, before: &State) -> Option<bool> {
+    let at = virtual_address(request)?;
+    let State { table, memory } = before;
+    let (hpa, _) = host_half(table, memory, at.host_root, at.root).ok()?;
+    let frame = frame_of(hpa);
+    Some(frame < before.n() && before.entry(frame).fixed)
 }
 
 /// The call that a request by virtual address makes in this state, if its walk gets to an end.
@@ -144,6 +157,8 @@ fn moved(request: &Request, before: &State) -> Option<Moved> {
 impl Counts {
     /// Counts what a request brought.
     pub fn note(&mut self, request: &Request, outcome: &Outcome, about: About, past: &mut Past) {
+        let fixed = about.by_fixed_table && outcome.refusal().is_none();
+        self.add(Event::ByFixedTable, fixed);
         match (request, outcome) {
             (Request::Call(call), &Outcome::Answered(answer)) => {
                 self.note_call(call, answer, about.moved, past);

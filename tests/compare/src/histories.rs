@@ -18,7 +18,7 @@ use crate::table::Table;
 const PLACES_EVERY: usize = 8;
 
 /// Of a hundred requests that come after no plan, so many begin one.
-const PLANS: u64 = 4;
+const PLANS: u64 = 6;
 
 /// Makes this many requests of both monitors, in histories, and counts what they replied.
 pub fn compare(

@@ -9,6 +9,7 @@ pub mod arguments;
 pub mod counts;
 mod damage;
 mod drop_frames;
+mod fewer_indexes;
 mod guided;
 pub mod histories;
 pub mod monitor;

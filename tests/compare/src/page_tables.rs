@@ -21,12 +21,13 @@ pub struct Built {
     pub at: Vec<Virtual>,
 }
 
-/// A page of the guest, and what its type is to it.
+/// A page of the guest, what its type is to it, and whether the guest has opened it or need not.
 #[derive(Clone, Copy)]
 struct Page {
     gpa: u64,
     frame: usize,
     kind: u64,
+    open: bool,
 }
 
 struct Builder<'a> {
@@ -93,14 +94,13 @@ impl<'a> Builder<'a> {
         let gpa = self.guest_address();
         let kinds = [SHARED, PRIVATE, PRIVATE, MERGEABLE, MERGEABLE];
         let kind = self.random.pick(&kinds);
-        let page = match self.take(kind != SHARED) {
-            Some(frame) => Page { gpa, frame, kind },
-            None => Page {
-                gpa,
-                frame: self.host[0],
-                kind: SHARED,
-            },
+        let (frame, kind) = match self.take(kind != SHARED) {
+            Some(frame) => (frame, kind),
+            None => (self.host[0], SHARED),
         };
+        let open = kind == SHARED || self.random.chance(80);
+        #[rustfmt::skip]
+        let page = Page { gpa, frame, kind, open };
         if page.kind != SHARED {
             self.give(page);
         }
@@ -116,16 +116,15 @@ impl<'a> Builder<'a> {
         }
     }
 
-    /// Makes the frame the guest's page: open, mostly, and now and then a merged one.
+    /// Makes the frame the guest's page, one that is open and MERGEABLE now and then a merged one.
     fn give(&mut self, page: Page) {
         let closed = Entry::closed(self.caller, page.kind, page.gpa);
-        let validated = self.random.chance(85);
         let unfixed = Entry {
-            validated,
+            validated: page.open,
             ..closed
         };
         self.state.put(page.frame, unfixed);
-        if page.kind == MERGEABLE && self.random.chance(40) {
+        if page.kind == MERGEABLE && page.open && self.random.chance(50) {
             if let Some(leaf) = self.take(true) {
                 self.fix(page, leaf);
             }
@@ -153,9 +152,11 @@ impl<'a> Builder<'a> {
         }
     }
 
-    /// Puts one of the pages at a virtual address, by tables in any of them.
+    /// Puts one of the pages at a virtual address, by tables in those that are open, or in any.
     fn way(&mut self, pages: &[Page]) -> Virtual {
-        let tables = [0; 4].map(|_| self.random.pick(pages));
+        let open: Vec<Page> = pages.iter().copied().filter(|page| page.open).collect();
+        let any = open.is_empty() || self.random.chance(10);
+        let tables = [0; 4].map(|_| self.random.pick(if any { pages } else { &open }));
         let page = self.random.pick(pages);
         let va = match self.random.below(6) {
             0 => self
@@ -266,5 +267,28 @@ impl<'a> Builder<'a> {
         if let Some(words) = self.state.frame_mut(leaf) {
             words[self.caller as usize] = word;
         }
+    }
+}
+
+#[cfg(test)]
+mod tests {
+    use super::*;
+    use second::walk;
+
+    /// Two of five, at least, do.
+    #[test]
+    #[rustfmt::skip]
+    fn many_walks_get_to_their_end() {
+        let mut random = Random::new(3);
+        let (mut made, mut ended) = (0, 0);
+        for _ in 0..2000 {
+            let Built { state: State { table, memory }, at } = built(&mut random);
+            for Virtual { caller, root, root_type, host_root, va } in at {
+                let found = walk(&table, &memory, caller, root, root_type, host_root, va);
+                made += 1;
+                ended += u32::from(found.is_ok());
+            }
+        }
+        assert!(ended * 5 > made * 2, "{ended} of {made}");
     }
 }

@@ -24,16 +24,19 @@ struct Page {
     fixed: bool,
 }
 
+/// Indexes of a virtual address: that of the three upper levels, and that of the last.
+const INDEXES: [[usize; 2]; 6] = [[0, 1], [0, 2], [0, 511], [3, 0], [255, 7], [256, 1]];
+
 /// A list for this state. It is empty where no guest has a page for its table.
 pub fn list(random: &mut Random, state: &State) -> Vec<Request> {
     let pages = pages(state);
-    let Some(page) = random.try_pick(&pages) else {
+    let Some(page) = page(random, &pages) else {
         return Vec::new();
     };
     let Some((host, table)) = tables(random, state, &pages, page) else {
         return Vec::new();
     };
-    let [upper, last] = random.pick(&[[0, 1], [0, 2], [0, 511], [3, 0], [255, 7], [256, 1]]);
+    let [upper, last] = indexes(random, state, table, page);
     let to = |indexes| Virtual {
         caller: page.asid,
         root: table.gpa,
@@ -48,6 +51,27 @@ pub fn list(random: &mut Random, state: &State) -> Vec<Request> {
     requests.extend(guest_write(state, table, last, page, itself));
     requests.extend(uses(random, state, to([upper, upper, upper, last]), page));
     requests
+}
+
+/// Any of these pages, one that is not open as often as not.
+fn page(random: &mut Random, pages: &[Page]) -> Option<Page> {
+    let closed: Vec<Page> = pages.iter().copied().filter(|page| !page.open).collect();
+    let pages = match closed.is_empty() || random.chance(50) {
+        true => pages,
+        false => &closed,
+    };
+    random.try_pick(pages)
+}
+
+/// Indexes that the table has an entry for already, if it can't be written; and else any.
+fn indexes(random: &mut Random, state: &State, table: Page, page: Page) -> [usize; 2] {
+    let words = state.frame(table.frame).unwrap_or_default();
+    let has = |index: usize, page: Page| words.get(index) == Some(&entry(page.gpa, page.kind));
+    let there = |&&[upper, last]: &&[usize; 2]| has(upper, table) && has(last, page);
+    match INDEXES.iter().find(there) {
+        Some(&found) if table.fixed => found,
+        _ => random.pick(&INDEXES),
+    }
 }
 
 /// The pages of guests that a walk can be about: those of entries, and those of guests in fixed pages.

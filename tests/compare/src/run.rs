@@ -11,7 +11,7 @@ use crate::table::Table;
 
 /// The seed and the number of calls of a run that names none.
 pub const SEED: u64 = 20;
-pub const CALLS: u64 = 1_500_000;
+pub const CALLS: u64 = 1_700_000;
 
 /// What a run prints, and whether all of it is as it has to be.
 pub struct Run {

@@ -4,6 +4,7 @@ use common::layout::{ENTRY_WORDS, FRAME_WORDS};
 use second::Request;
 
 use crate::drop_frames::drop_frames;
+use crate::fewer_indexes::lower_indexes;
 use crate::pair::Finding;
 use crate::requests::{numbers, with_numbers};
 use crate::state::State;
@@ -56,6 +57,7 @@ pub fn smallest(mut case: Case, check: &Check) -> Case {
         let large = case.start.memory.len() > SMALL;
         if !large {
             smaller |= clear_columns(&mut case, check);
+            smaller |= lower_indexes(&mut case, check);
         }
         smaller |= clear_words(&mut case, table, check);
         smaller |= clear_words(&mut case, memory, check);

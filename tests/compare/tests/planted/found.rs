@@ -72,7 +72,7 @@ fn faults_in_whole_pages_are_found() {
 /// The entries of the page tables on the way are words of memory too.
 #[test]
 fn faults_in_walks_are_found() {
-    all_are_found_in(&walks::FAULTS, 16);
+    all_are_found_in(&walks::FAULTS, 12);
 }
 
 #[test]

@@ -12,7 +12,7 @@ use second::{Answer, Call};
 use crate::changes;
 use crate::monitors::{entry, leaf_word, refused, words, Planted};
 use crate::pages::{self, Fault, PlantedPage};
-use crate::{reasons, refusals};
+use crate::{reasons, refusals, walks};
 
 /// What is found in as many requests as histories have in a run.
 fn found(fault: &dyn Monitor) -> Option<Box<Report>> {
@@ -250,6 +250,27 @@ fn replies_that_no_page_can_have() {
     ] {
         let fault = pages::FAULTS.iter().find(|fault| fault.name == name);
         is_found(fault.expect("a fault of this name"), "no answer to this");
+    }
+}
+
+/// What a call by virtual address brings is held against what its walk finds.
+#[test]
+fn faults_in_calls_by_virtual_address() {
+    for (name, words) in [
+        ("the guest address is not named", "the walk yields"),
+        ("the virtual address is named", "the walk yields"),
+        (
+            "the guest's tables need not be open",
+            "the walk is refused with 9",
+        ),
+        ("READ by virtual address does not check VALIDATED (9)", ""),
+        ("WRITE by virtual address is lost", "was last written"),
+        (
+            "PVALIDATE by virtual address answers opened always",
+            "openings",
+        ),
+    ] {
+        is_found(walks::named(name), words);
     }
 }
 

@@ -7,18 +7,21 @@ use second::{page_check, Answer, Call};
 
 use crate::monitors::{bad, refused, Planted};
 use crate::pages::{Fault, PlantedPage};
-use crate::{reasons, refusals};
+use crate::{reasons, refusals, walks};
+
+/// The fewest calls, by and large, in which every cell is met.
+const CALLS: u64 = 150_000;
 
 /// A run in which this monitor stands on both sides, so that there is no difference.
 fn run_of(monitor: &dyn Monitor) -> Run {
-    run([&second, &second], [monitor, monitor], 3, 100_000)
+    run([&second, &second], [monitor, monitor], 3, CALLS)
 }
 
 #[test]
 fn a_run_without_faults_passes() {
-    let run = run([&second, &second], [&Proved, &Second], 3, 100_000);
+    let run = run([&second, &second], [&Proved, &Second], 3, CALLS);
     assert!(run.passed, "{}", run.printed);
-    let last = "100000 calls, seed 3, 0 differences, 107 cells and 96 of reasons reached\n";
+    let last = "150000 calls, seed 3, 0 differences, 165 cells and 112 of reasons reached\n";
     assert!(run.printed.ends_with(last), "{}", run.printed);
 }
 
@@ -62,6 +65,16 @@ fn an_empty_cell_of_whole_pages_fails() {
     });
     let cell = "never met: page_check refused with 5";
     assert!(!run.passed && run.printed.contains(cell), "{}", run.printed);
+}
+
+#[test]
+fn an_empty_cell_of_calls_by_virtual_address_fails() {
+    let run = run_of(walks::named("a large page is told as an absent entry"));
+    for call in ["walk", "pvalidate_va", "read_va", "write_va"] {
+        let cell = format!("never met: {call} refused with 19\n");
+        let printed = &run.printed;
+        assert!(!run.passed && printed.contains(&cell), "{printed}");
+    }
 }
 
 #[test]
@@ -148,7 +161,7 @@ fn a_reason_that_no_refusal_has_fails() {
 #[test]
 fn a_difference_fails() {
     let lost = |text: &[u8]| second(text.strip_suffix(b"\n").unwrap_or_default());
-    let run = run([&lost, &second], [&Second, &Second], 3, 100_000);
+    let run = run([&lost, &second], [&Second, &Second], 3, CALLS);
     assert!(
         !run.passed && run.printed.contains("1 differences"),
         "{}",

@@ -7,7 +7,7 @@ use compare::requests::virtual_address;
 use second::{page_check, read, Answer, Call, Mapping, Reached, Reason, Refusal};
 use second::{Reply, Request, Virtual};
 
-use crate::monitors::refused;
+use crate::monitors::{refused, words};
 
 /// A monitor with a fault in its walk, or in what it makes of one. For all else it is the second program.
 pub struct PlantedWalk {
@@ -46,6 +46,10 @@ pub enum Fault {
     HostAnyFrame,
     GuestUnopened,
     ReasonDropped,
+    LargeAbsent,
+    ReadUnopened,
+    WriteLost,
+    OpenedAlways,
 }
 
 /// One walk.
@@ -102,7 +106,23 @@ impl PlantedWalk {
                 Call::Write { caller, gpa, hpa, gtype, ntype, index, value },
             _ => panic!("no other request makes a call"),
         };
-        call.make(table, memory)
+        self.make(&call, table, memory)
+    }
+
+    /// Makes this call.
+    fn make(&self, call: &Call, table: &mut [u64], memory: &mut [u64]) -> Answer {
+        let mut kept = memory.to_vec();
+        match (self.fault, call.make(table, &mut kept), *call) {
+            (Fault::WriteLost, answer, _) => answer,
+            (Fault::OpenedAlways, Answer::Already, _) => Answer::Opened,
+            #[rustfmt::skip]
+            (Fault::ReadUnopened, Answer::Refused { number: 9, .. }, Call::Read { hpa, index, .. }) =>
+                Answer::Word(memory[words(hpa)][index as usize]),
+            (_, answer, _) => {
+                memory.copy_from_slice(&kept);
+                answer
+            }
+        }
     }
 }
 
@@ -200,9 +220,10 @@ impl Walker<'_> {
             _ => false,
         };
         let large = word & LARGE != 0 && !let_through;
-        require(!(large && self.is(Fault::LargeFirst)), 19)?;
+        let number = if self.is(Fault::LargeAbsent) { 18 } else { 19 };
+        require(!(large && self.is(Fault::LargeFirst)), number)?;
         require(word & PRESENT != 0, 18)?;
-        require(!large, 19)
+        require(!large, number)
     }
 
     fn address(&self, word: u64) -> u64 {
@@ -277,7 +298,7 @@ const fn planted(name: &'static str, fault: Fault) -> PlantedWalk {
 pub const RIGHT: PlantedWalk = planted("the walk by READ", Fault::None);
 
 #[rustfmt::skip]
-pub const FAULTS: [PlantedWalk; 28] = [
+pub static FAULTS: [PlantedWalk; 32] = [
     planted("bit 7 is let through at the top", Fault::TopLarge),
     planted("a large page is let through in the host's table above the last", Fault::HostMiddleLarge),
     planted("a large page is let through in the guest's table above the last", Fault::GuestMiddleLarge),
@@ -306,4 +327,14 @@ pub const FAULTS: [PlantedWalk; 28] = [
     planted("the host's tables are read in any frame", Fault::HostAnyFrame),
     planted("the guest's tables need not be open", Fault::GuestUnopened),
     planted("5 on the way has reason 1", Fault::ReasonDropped),
+    planted("a large page is told as an absent entry", Fault::LargeAbsent),
+    planted("READ by virtual address does not check VALIDATED (9)", Fault::ReadUnopened),
+    planted("WRITE by virtual address is lost", Fault::WriteLost),
+    planted("PVALIDATE by virtual address answers opened always", Fault::OpenedAlways),
 ];
+
+/// The fault of this name.
+pub fn named(name: &str) -> &'static PlantedWalk {
+    let fault = FAULTS.iter().find(|fault| fault.name == name);
+    fault.expect("a fault of this name")
+}
