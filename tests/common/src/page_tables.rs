@@ -50,7 +50,7 @@ pub fn virtual_address(indexes: [usize; 4]) -> u64 {
     let joined = indexes
         .iter()
         .fold(0, |high, &index| high << 9 | index as u64);
-    let shifted = (joined * FRAME_BYTES << 16) as i64 >> 16;
+    let shifted = ((joined * FRAME_BYTES) << 16) as i64 >> 16;
     shifted as u64
 }
 

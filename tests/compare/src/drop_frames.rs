@@ -11,18 +11,22 @@ use crate::requests::{kinds, numbers, virtual_address, with_numbers};
 use crate::shrink::{fewest, Case, Check};
 use crate::state::State;
 
+/// Up to so many frames are tried one by one.
+const FEW: usize = 64;
+
 /// Takes out frames, with their entries if they have any.
 pub fn drop_frames(case: &mut Case, check: &Check) -> bool {
     let frames: Vec<usize> = (0..case.start.m().max(case.start.n())).collect();
-    // where sizes have to be large, every try is slow: then a few have to do
-    let mut tries = if frames.len() > 64 { 8 } else { u32::MAX };
-    let kept = fewest(&frames, |kept| {
+    // where sizes have to be large, every try is slow: then a few, of many frames each, have to do
+    let mut tries = if frames.len() > FEW { 8 } else { u32::MAX };
+    let runs: Vec<&[usize]> = frames.chunks(frames.len().div_ceil(FEW).max(1)).collect();
+    let kept = fewest(&runs, |kept| {
         tries = tries.saturating_sub(1);
-        tries > 0 && check(&restricted(case, kept)).is_some()
+        tries > 0 && check(&restricted(case, &kept.concat())).is_some()
     });
-    let smaller = kept.len() < frames.len();
+    let smaller = kept.len() < runs.len();
     if smaller {
-        *case = restricted(case, &kept);
+        *case = restricted(case, &kept.concat());
     }
     smaller
 }
@@ -83,8 +87,8 @@ fn kept_words(
     let part = |place: Range<usize>| &words[place.start.min(end)..place.end.min(end)];
     let whole = kept.iter().filter(|&&frame| frame < frames);
     let odd = part(at(frames).start..end);
-    let whole = whole.map(|&frame| part(at(frame)));
-    whole.chain([odd]).flatten().copied().collect()
+    let parts = whole.map(|&frame| part(at(frame))).chain([odd]);
+    parts.collect::<Vec<_>>().concat()
 }
 
 /// The request with the addresses of frames changed.

@@ -226,9 +226,7 @@ impl<'a> Builder<'a> {
     /// A frame with an entry becomes another guest's, SHARED, a LEAF, or one whose entry is not well formed; or its page is another.
     fn spoil_frame(&mut self) {
         let frame = self.random.index(self.state.n());
-        let used = frame_of(address(
-            self.random.pick(&self.entries) as usize / FRAME_WORDS,
-        ));
+        let used = self.random.pick(&self.entries) / FRAME_WORDS;
         let frame = if used < self.state.n() { used } else { frame };
         let entry = self.state.entry(frame);
         let (caller, kind) = (self.caller, self.random.pick(&[PRIVATE, MERGEABLE]));

@@ -77,7 +77,12 @@ fn faults_in_walks_are_found() {
 
 #[test]
 fn a_walk_without_faults_is_the_same() {
-    let run = sequences::compare([&walks::RIGHT, &Second], SEED, CALLS / 5, &mut Table::new());
+    let run = sequences::compare(
+        [&walks::RIGHT, &Second],
+        SEED,
+        CALLS / 20,
+        &mut Table::new(),
+    );
     assert!(run.is_ok());
 }
 

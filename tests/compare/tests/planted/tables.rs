@@ -10,7 +10,7 @@ use crate::pages::{Fault, PlantedPage};
 use crate::{reasons, refusals, walks};
 
 /// The fewest calls, by and large, in which every cell is met.
-const CALLS: u64 = 150_000;
+const CALLS: u64 = 100_000;
 
 /// A run in which this monitor stands on both sides, so that there is no difference.
 fn run_of(monitor: &dyn Monitor) -> Run {
@@ -21,7 +21,7 @@ fn run_of(monitor: &dyn Monitor) -> Run {
 fn a_run_without_faults_passes() {
     let run = run([&second, &second], [&Proved, &Second], 3, CALLS);
     assert!(run.passed, "{}", run.printed);
-    let last = "150000 calls, seed 3, 0 differences, 165 cells and 112 of reasons reached\n";
+    let last = "100000 calls, seed 3, 0 differences, 165 cells and 112 of reasons reached\n";
     assert!(run.printed.ends_with(last), "{}", run.printed);
 }
 
