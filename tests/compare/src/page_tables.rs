@@ -43,9 +43,37 @@ struct Builder<'a> {
 }
 
 /// A small state with page tables. The tables are right as often as not.
-pub fn built(random: &mut Random) -> Built {
+pub fn small(random: &mut Random) -> Built {
     let n = 3 + random.index(8);
-    let mut builder = Builder::new(random, n);
+    let m = n + random.index(4);
+    let mut free: Vec<usize> = (0..m).collect();
+    for place in 1..m {
+        free.swap(place, random.index(place + 1));
+    }
+    let mut built = built(random, State::zero(n, m), free);
+    if random.chance(3) {
+        states::missize(random, &mut built.state);
+    }
+    built
+}
+
+/// The same in a large state: the tables are in frames at both ends of table and memory, and in any.
+pub fn large(random: &mut Random, size: (usize, usize)) -> Built {
+    let state = states::large(random, size);
+    let (n, m) = size;
+    let any = [0; 6].map(|_| random.index(m));
+    let ends = [n.saturating_sub(4), n - 1, n, m - 1, 3];
+    let fit = |frame: &usize| *frame >= n || state.entry(*frame) == Entry::SHARED;
+    let mut free: Vec<usize> = any.into_iter().chain(ends).collect();
+    free.retain(|frame| *frame < m && fit(frame));
+    free.sort_unstable_by_key(|frame| (frame * 7 % 11, *frame));
+    free.dedup();
+    built(random, state, free)
+}
+
+/// Puts page tables into frames of a state that nothing is in; there is one at least.
+fn built(random: &mut Random, state: State, free: Vec<usize>) -> Built {
+    let mut builder = Builder::new(random, state, free);
     let count = 1 + builder.random.index(4);
     let pages: Vec<Page> = (0..count).map(|_| builder.page()).collect();
     let count = 1 + builder.random.index(3);
@@ -53,24 +81,17 @@ pub fn built(random: &mut Random) -> Built {
     for _ in 0..builder.random.pick(&[0, 0, 0, 1, 1, 2]) {
         builder.spoil();
     }
-    let mut state = builder.state;
-    if random.chance(3) {
-        states::missize(random, &mut state);
-    }
+    let state = builder.state;
     Built { state, at }
 }
 
 impl<'a> Builder<'a> {
-    /// No page yet, and the host's tables in a frame or two, which may be above N.
-    fn new(random: &'a mut Random, n: usize) -> Self {
-        let m = n + random.index(4);
-        let mut free: Vec<usize> = (0..m).collect();
-        for place in 1..m {
-            free.swap(place, random.index(place + 1));
-        }
-        let tables = free.split_off(m - random.pick(&[1, 1, 2, 3]));
+    /// No page yet, and the host's tables in a frame or a few, which may be above N.
+    fn new(random: &'a mut Random, state: State, mut free: Vec<usize>) -> Self {
+        let kept = free.len().saturating_sub(random.pick(&[1, 1, 2, 3]));
+        let tables = free.split_off(kept);
         Self {
-            state: State::zero(n, m),
+            state,
             caller: random.pick(&[1, 2, 7, 511]),
             free,
             host: [0; 4].map(|_| random.pick(&tables)),
@@ -280,7 +301,7 @@ mod tests {
         let mut random = Random::new(3);
         let (mut made, mut ended) = (0, 0);
         for _ in 0..2000 {
-            let Built { state: State { table, memory }, at } = built(&mut random);
+            let Built { state: State { table, memory }, at } = small(&mut random);
             for Virtual { caller, root, root_type, host_root, va } in at {
                 let found = walk(&table, &memory, caller, root, root_type, host_root, va);
                 made += 1;

@@ -33,12 +33,13 @@ pub fn compare(
         let (start, length) = if made >= LARGE_EVERY * (large + 1) {
             let size = states::LARGE[large as usize % states::LARGE.len()];
             large += 1;
-            (
-                without_tables(states::large(&mut random, size)),
-                LARGE_CALLS,
-            )
+            let start = match random.chance(50) {
+                true => page_tables::large(&mut random, size),
+                false => without_tables(states::large(&mut random, size)),
+            };
+            (start, LARGE_CALLS)
         } else if random.chance(TABLES) {
-            (page_tables::built(&mut random), 4 + random.below(30))
+            (page_tables::small(&mut random), 4 + random.below(30))
         } else {
             let state = states::small(&mut random);
             (without_tables(state), 4 + random.below(60))

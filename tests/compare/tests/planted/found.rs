@@ -20,29 +20,32 @@ fn found(fault: &dyn Monitor, side: usize) -> Option<Box<Report>> {
     sequences::compare(monitors, SEED, CALLS / 2, &mut Table::new()).err()
 }
 
-/// What is wrong with what was found, if anything is: more words of memory than this are not small.
-fn complaint(fault: &dyn Monitor, report: &Report, most: usize) -> Option<String> {
+/// How many frames, and how many words of memory that are not zero, are small.
+type Small = (usize, usize);
+
+/// What is wrong with what was found, if anything is.
+fn complaint(fault: &dyn Monitor, report: &Report, (frames, most): Small) -> Option<String> {
     let (table, memory) = report.words();
     // a fault of a size shows at that size alone
     let sized = fault.name().contains(",");
     let small = report.case.requests.len() == 1
         && table <= 6
         && memory <= most
-        && (sized || report.case.start.n() <= 4 && report.case.start.m() <= 4)
+        && (sized || report.case.start.n().max(report.case.start.m()) <= frames)
         && report.to_string().lines().count() <= 22 + most;
     (!small).then(|| format!("not small: {}\n{report}", fault.name()))
 }
 
 fn all_are_found<Fault: Monitor>(faults: &[Fault]) {
-    all_are_found_in(faults, 3);
+    all_are_found_in(faults, (4, 3));
 }
 
-fn all_are_found_in<Fault: Monitor>(faults: &[Fault], most: usize) {
+fn all_are_found_in<Fault: Monitor>(faults: &[Fault], small: Small) {
     let mut complaints = Vec::new();
     for (number, fault) in faults.iter().enumerate() {
         match found(fault, number % 2) {
             None => complaints.push(format!("not found: {}", fault.name())),
-            Some(report) => complaints.extend(complaint(fault, &report, most)),
+            Some(report) => complaints.extend(complaint(fault, &report, small)),
         }
     }
     assert!(complaints.is_empty(), "{}", complaints.join("\n"));
@@ -72,7 +75,7 @@ fn faults_in_whole_pages_are_found() {
 /// The entries of the page tables on the way are words of memory too.
 #[test]
 fn faults_in_walks_are_found() {
-    all_are_found_in(&walks::FAULTS, 12);
+    all_are_found_in(&walks::FAULTS, (6, 12));
 }
 
 #[test]

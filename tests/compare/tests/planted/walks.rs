@@ -29,6 +29,7 @@ pub enum Fault {
     RootType,
     HostTypeDropped,
     Unbounded,
+    BoundIncluded,
     RootBoundFirst,
     AddressShort,
     Canonical,
@@ -186,7 +187,12 @@ impl Walker<'_> {
 
     /// The frame and the type that the host's tables have for a guest address.
     fn host(&self, gpa: u64, gtype: u64) -> Result<(u64, u64), Answer> {
-        require(gpa < GUEST_END || self.is(Fault::Unbounded), 2)?;
+        let bounded = match self.fault {
+            Fault::Unbounded => true,
+            Fault::BoundIncluded => gpa <= GUEST_END,
+            _ => gpa < GUEST_END,
+        };
+        require(bounded, 2)?;
         let (mut hpa, mut ntype) = (self.at.host_root, SHARED);
         for level in LEVELS {
             let read = self.read(0, 0, hpa, [SHARED; 2], index(gpa, level));
@@ -298,7 +304,7 @@ const fn planted(name: &'static str, fault: Fault) -> PlantedWalk {
 pub const RIGHT: PlantedWalk = planted("the walk by READ", Fault::None);
 
 #[rustfmt::skip]
-pub static FAULTS: [PlantedWalk; 32] = [
+pub static FAULTS: [PlantedWalk; 33] = [
     planted("bit 7 is let through at the top", Fault::TopLarge),
     planted("a large page is let through in the host's table above the last", Fault::HostMiddleLarge),
     planted("a large page is let through in the guest's table above the last", Fault::GuestMiddleLarge),
@@ -310,6 +316,7 @@ pub static FAULTS: [PlantedWalk; 32] = [
     planted("all of the guest's tables are read with the root's type", Fault::RootType),
     planted("the type of the host's last entry is dropped", Fault::HostTypeDropped),
     planted("the guest address is not bounded", Fault::Unbounded),
+    planted("the guest address 2^48 is let through", Fault::BoundIncluded),
     planted("the guest's root is bounded with the arguments", Fault::RootBoundFirst),
     planted("an entry has its address in bits 47 to 12", Fault::AddressShort),
     planted("bit 47 is not looked at in a virtual address", Fault::Canonical),
