@@ -1,5 +1,5 @@
-//! The library's functions: the nine calls, the check and the writing of a whole shared page, and the four calls by virtual address. This is
-//! the only file with unsafe code: each function hands the pointers and lengths of its slices to the library.
+//! The library's functions: the nine calls, the check and the writing of a whole shared page, and the four calls by virtual address. This
+//! is the only file with unsafe code: each function hands the pointers and lengths of its slices to the library.
 //!
 //! What the library asks of a caller is true of a slice by its type: a pointer that is not null, aligned, to that many words, which
 //! nobody else writes to meanwhile. Two slices of which one is `&mut` do not overlap. Whatever words and numbers are, it answers.
@@ -357,9 +357,9 @@ pub fn page_write(
     unsafe { skorbilek_page_write(t, n, m, w, caller, gpa, hpa, p, k) }.answer()
 }
 
-/// The walk: where the virtual address `va` of the guest `caller` leads, by its own page tables and the host's. The guest's top table is its
-/// page at `root`, of the type `root_type`; the host's is the SHARED frame at `host_root`. Every guest address on the way goes through the
-/// host's tables first. Table and memory stay as they are.
+/// The walk: where the virtual address `va` of the guest `caller` leads, by its own page tables and the host's. The guest's top table is
+/// its page at `root`, of the type `root_type`; the host's is the SHARED frame at `host_root`. Every guest address on the way goes through
+/// the host's tables first. Table and memory stay as they are.
 ///
 /// Both tables have four levels, as those of x86-64 have: an entry has bit 0 where it is present, the address in bits 51 to 12 and the type
 /// in bits 53 and 52.

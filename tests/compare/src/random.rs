@@ -46,6 +46,13 @@ impl Random {
         items[self.index(items.len())]
     }
 
+    /// Puts a list into any order.
+    pub fn shuffle<T>(&mut self, items: &mut [T]) {
+        for place in 1..items.len() {
+            items.swap(place, self.index(place + 1));
+        }
+    }
+
     /// One of a list, if it has any.
     pub fn try_pick<T: Copy>(&mut self, items: &[T]) -> Option<T> {
         (!items.is_empty()).then(|| self.pick(items))

@@ -10,9 +10,9 @@ use crate::reasons::Reasons;
 use crate::requests::{self, NAMES};
 use crate::state::State;
 
-/// Which calls can be accepted, and be refused with 1 to 19: docs/CALLS.md, 'Refusals', the column 'Can be given by'. The letters r, w and c
-/// are whole pages, whose access is SHARED: any party may make it, and nothing is asked of a page of a guest. The letters k, v, l and s are
-/// the calls by virtual address: each can be given what a READ can on the way, and v and s what PVALIDATE and WRITE can at its end.
+/// Which calls can be accepted, and be refused with 1 to 19: docs/CALLS.md, 'Refusals', the column 'Can be given by'. The letters r, w and
+/// c are whole pages, whose access is SHARED: any party may make it, and nothing is asked of a page of a guest. The letters k, v, l and s
+/// are the calls by virtual address: each can be given what a READ can on the way, and v and s what PVALIDATE and WRITE can at its end.
 pub const REACHABLE: [&str; 20] = [
     "UVFMDXRWCrwckvls", // accepted
     "UVFMDXRWCrwckvls", // 1, GEOMETRY
