@@ -9,19 +9,20 @@ use crate::monitors::{bad, refused, Planted};
 use crate::pages::{Fault, PlantedPage};
 use crate::{reasons, refusals, walks};
 
-/// The fewest calls, by and large, in which every cell is met.
+/// Few calls in which every cell is met all the same.
+const SEED: u64 = 13;
 const CALLS: u64 = 100_000;
 
 /// A run in which this monitor stands on both sides, so that there is no difference.
 fn run_of(monitor: &dyn Monitor) -> Run {
-    run([&second, &second], [monitor, monitor], 3, CALLS)
+    run([&second, &second], [monitor, monitor], SEED, CALLS)
 }
 
 #[test]
 fn a_run_without_faults_passes() {
-    let run = run([&second, &second], [&Proved, &Second], 3, CALLS);
+    let run = run([&second, &second], [&Proved, &Second], SEED, CALLS);
     assert!(run.passed, "{}", run.printed);
-    let last = "100000 calls, seed 3, 0 differences, 165 cells and 112 of reasons reached\n";
+    let last = "100000 calls, seed 13, 0 differences, 165 cells and 112 of reasons reached\n";
     assert!(run.printed.ends_with(last), "{}", run.printed);
 }
 
@@ -161,7 +162,7 @@ fn a_reason_that_no_refusal_has_fails() {
 #[test]
 fn a_difference_fails() {
     let lost = |text: &[u8]| second(text.strip_suffix(b"\n").unwrap_or_default());
-    let run = run([&lost, &second], [&Second, &Second], 3, CALLS);
+    let run = run([&lost, &second], [&Second, &Second], SEED, CALLS);
     assert!(
         !run.passed && run.printed.contains("1 differences"),
         "{}",

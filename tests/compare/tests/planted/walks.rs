@@ -1,5 +1,8 @@
 //! Faults in the calls by virtual address: a walk of its own, by the second program's READ, which makes one mistake.
 
+use std::cell::{Cell, RefCell};
+use std::collections::BTreeSet;
+
 use common::layout::{ADDRESS_END, FRAME_BYTES, LEAF, SHARED};
 use common::page_tables::{address_of, index, kind_of, GUEST_END, LARGE, LEVELS, PRESENT};
 use compare::monitor::{Monitor, Second};
@@ -53,8 +56,12 @@ pub enum Fault {
     OpenedAlways,
 }
 
+/// How far a walk is: how many of the guest's tables it has read, and how many of the host's for the next.
+pub type Place = (usize, usize);
+
 /// One walk.
 struct Walker<'a> {
+    place: Cell<Place>,
     fault: Fault,
     at: Virtual,
     table: &'a [u64],
@@ -70,8 +77,9 @@ impl Monitor for PlantedWalk {
         let (fault, Some(at)) = (self.fault, virtual_address(request)) else {
             return Second.reply(request, table, memory);
         };
+        let place = Cell::default();
         #[rustfmt::skip]
-        let walker = Walker { fault, at, table, memory };
+        let walker = Walker { place, fault, at, table, memory };
         let found = walker.walk(fits(request));
         let (answer, gpa) = match (found, request) {
             (found, Request::Walk(_)) => return Reply::Mapping(found.map_err(refusal)),
@@ -145,7 +153,8 @@ impl Walker<'_> {
         self.check(others_fit || self.is(Fault::OthersLast))?;
         let Virtual { caller, va, .. } = self.at;
         let (mut gpa, mut gtype) = (self.at.root, self.at.root_type);
-        for level in LEVELS {
+        for (read, level) in LEVELS.into_iter().enumerate() {
+            self.place.set((read, 0));
             let (hpa, ntype) = self.host(gpa, gtype)?;
             let types = match self.fault {
                 Fault::GuestShared => [SHARED, SHARED],
@@ -161,6 +170,7 @@ impl Walker<'_> {
             require(kind_of(word) != LEAF || !asked, 6)?;
             (gpa, gtype) = (self.address(word), kind_of(word));
         }
+        self.place.set((LEVELS.len(), 0));
         let (hpa, ntype) = self.host(gpa, gtype)?;
         require(others_fit, 2)?;
         #[rustfmt::skip]
@@ -210,6 +220,8 @@ impl Walker<'_> {
             };
             require(kind_of(word) != LEAF || !asked, 6)?;
             (hpa, ntype) = (self.address(word), kind_of(word));
+            let (read, host) = self.place.get();
+            self.place.set((read, host + 1));
         }
         match self.is(Fault::HostTypeDropped) {
             true => Ok((hpa, gtype)),
@@ -296,12 +308,59 @@ fn refusal(answer: Answer) -> Refusal {
     same.expect("a walk has no other refusal")
 }
 
+/// No fault; but it notes where walks stop, and with which number, 0 at their end.
+#[derive(Default)]
+pub struct Noting(pub RefCell<BTreeSet<(Place, u8)>>);
+
+impl Monitor for Noting {
+    fn name(&self) -> &str {
+        "noting"
+    }
+
+    fn reply<'m>(&self, request: &Request, table: &mut [u64], memory: &'m mut [u64]) -> Reply<'m> {
+        if let Some(at) = virtual_address(request) {
+            let (place, fault) = (Cell::default(), Fault::None);
+            #[rustfmt::skip]
+            let walker = Walker { place, fault, at, table, memory };
+            let number = match walker.walk(fits(request)) {
+                Err(Answer::Refused { number, .. }) => number,
+                _ => 0,
+            };
+            let stop = (walker.place.get(), number);
+            self.0.borrow_mut().insert(stop);
+        }
+        RIGHT.reply(request, table, memory)
+    }
+}
+
+/// Where walks have to be seen to stop, and with which numbers: at each table of the host's on the way to each of the guest's and to the
+/// page, and at each of the guest's.
+pub fn stops() -> Vec<(Place, &'static [u8])> {
+    let mut stops: Vec<(Place, &[u8])> = vec![((4, 4), &[0])];
+    for read in 0..=4 {
+        for host in 0..4 {
+            let numbers: &[u8] = match (read, host) {
+                (0, 0) => &[1, 2, 3, 4, 5, 6, 18, 19],
+                (_, 0) => &[2, 18, 19],
+                (_, 3) => &[6, 18],
+                _ => &[4, 6, 18, 19],
+            };
+            stops.push(((read, host), numbers));
+        }
+    }
+    for read in 0..3 {
+        stops.push(((read, 4), &[4, 5, 6, 7, 8, 9, 12, 13, 18, 19]));
+    }
+    stops.push(((3, 4), &[4, 5, 6, 7, 8, 9, 12, 13, 18]));
+    stops
+}
+
 const fn planted(name: &'static str, fault: Fault) -> PlantedWalk {
     PlantedWalk { name, fault }
 }
 
 /// No fault.
-pub const RIGHT: PlantedWalk = planted("the walk by READ", Fault::None);
+const RIGHT: PlantedWalk = planted("the walk by READ", Fault::None);
 
 #[rustfmt::skip]
 pub static FAULTS: [PlantedWalk; 33] = [
