@@ -27,23 +27,49 @@ pub fn compare(
     calls: u64,
     table: &mut Table,
 ) -> Result<(), Box<Report>> {
-    let mut random = Random::new(seed ^ 0x5e90);
-    let (mut made, mut large) = (0, 0);
-    while made < calls {
-        let (start, length) = if made >= LARGE_EVERY * (large + 1) {
+    let mut large = 0;
+    compare_on(monitors, seed, calls, table, |random, made| {
+        if made >= LARGE_EVERY * (large + 1) {
             let size = states::LARGE[large as usize % states::LARGE.len()];
             large += 1;
             let start = match random.chance(50) {
-                true => page_tables::large(&mut random, size),
-                false => without_tables(states::large(&mut random, size)),
+                true => page_tables::large(random, size),
+                false => without_tables(states::large(random, size)),
             };
             (start, LARGE_CALLS)
         } else if random.chance(TABLES) {
-            (page_tables::small(&mut random), 4 + random.below(30))
+            (page_tables::small(random), 4 + random.below(30))
         } else {
-            let state = states::small(&mut random);
+            let state = states::small(random);
             (without_tables(state), 4 + random.below(60))
-        };
+        }
+    })
+}
+
+/// The same on small states with page tables alone.
+pub fn compare_walks(
+    monitors: [&dyn Monitor; 2],
+    seed: u64,
+    calls: u64,
+    table: &mut Table,
+) -> Result<(), Box<Report>> {
+    compare_on(monitors, seed, calls, table, |random, _| {
+        (page_tables::small(random), 4 + random.below(30))
+    })
+}
+
+/// The same on these states, each for so many calls; they may ask how many were made before.
+fn compare_on(
+    monitors: [&dyn Monitor; 2],
+    seed: u64,
+    calls: u64,
+    table: &mut Table,
+    mut start: impl FnMut(&mut Random, u64) -> (Built, u64),
+) -> Result<(), Box<Report>> {
+    let mut random = Random::new(seed ^ 0x5e90);
+    let mut made = 0;
+    while made < calls {
+        let (start, length) = start(&mut random, made);
         let length = length.min(calls - made);
         run(monitors, start, length, &mut random, table)?;
         made += length;

@@ -82,7 +82,7 @@ fn faults_in_walks_are_found() {
 #[test]
 fn walks_stop_everywhere() {
     let noting = walks::Noting::default();
-    let run = sequences::compare([&noting, &Second], SEED, CALLS / 2, &mut Table::new());
+    let run = sequences::compare_walks([&noting, &Second], SEED, CALLS / 10, &mut Table::new());
     assert!(run.is_ok());
     let stops = noting.0.borrow();
     let mut never = Vec::new();
