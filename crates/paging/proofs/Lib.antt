@@ -1,5 +1,6 @@
 -- Laws of walks, and the worked ones.
 pub mod Examples
+pub mod FitsLaws
 pub mod IndexLaws
 pub mod MetLaws
 pub mod Traced
