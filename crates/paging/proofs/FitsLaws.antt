@@ -7,14 +7,14 @@ use native.Mathlib.Omega.{arith}
 use lib.Dec.{leb, eqb}
 use borrow.Author.Tests.{eq-eqb, lt-ltb, le-leb, eqb-false, leb-true, not-true}
 use Rattle.words.specs.Choice.{pick, _and_}
-use Rattle.words.proofs.ChoiceLaws.{and-left, and-right, both-true}
+use Rattle.words.proofs.ChoiceLaws.{and-left, both-true}
 use Rattle.entries.specs.Entry.{MERGEABLE, LEAF, addressLimit, isAddress, isParty, isGuest}
 use Rattle.entries.proofs.Tells.{in-range}
 use Rattle.rules.specs.Arguments.{isHost}
 use Rattle.rules.specs.Refusals.{Refusal}
 use Rattle.rules.specs.State.{State}
 use Rattle.paging.specs.Entry.{addressOf, typeOf, pageOf, indexAt}
-use Rattle.paging.specs.Fits.{Fits, YieldFits}
+use Rattle.paging.specs.Fits.{YieldFits}
 use Rattle.paging.specs.Walk.{Walked, reaches, stops, onward, provided, Pointer, pointer, follow, down, walk, hostReads, atLast}
 use Rattle.paging.specs.Walk.{hostWalk, hostHalf, guestReads, always, Virtual, guestWalk, mapping, walked, virtualArguments, translated}
 

@@ -1,7 +1,7 @@
 -- The indexes of a page's number, from the top: where the bits that a walk has used are shifted out, the next index is on top.
 -- Assumes nothing.
-use mathlib.Core.Path.{_≡_, refl}
-use mathlib.Core.Logic.{_⊎_, inl, inr, ⊎-elim}
+use mathlib.Core.Path.{_≡_}
+use mathlib.Core.Logic.{_⊎_, ⊎-elim}
 use Prim.Native.Nat.{ℕ, _*_, _/_, _%_, _^_, _-_, _<_, _≤_}
 use native.Mathlib.Omega.{arith}
 use Rattle.words.proofs.ChoiceLaws.{same-or-not}

@@ -5,7 +5,6 @@ use mathlib.Core.Path.{_≡_, refl, _∙_}
 use mathlib.Core.Bool.{Bool, true, false}
 use mathlib.Core.List.{List, [], _∷_, _++_}
 use Prim.Native.Nat.{ℕ, zero, suc}
-use lib.Dec.{eqb}
 use Rattle.words.specs.Choice.{pick}
 use Rattle.entries.specs.Entry.{frameOf, reasonOf}
 use Rattle.rules.specs.Access.{reading, access, read}
@@ -14,7 +13,7 @@ use Rattle.rules.specs.Calls.{READ, step}
 use Rattle.rules.specs.Reasons.{framesOf, firstReason}
 use Rattle.rules.specs.Refusals.{Refusal, alone}
 use Rattle.rules.specs.State.{State, entryAt}
-use Rattle.rules.proofs.Cause.{Fault, bad-entry, broken-leaf, ordinary, Cause, plain, fault, more-frames}
+use Rattle.rules.proofs.Cause.{bad-entry, broken-leaf, ordinary, Cause, plain, fault, more-frames}
 use Rattle.rules.proofs.FirstReason.{none-before}
 use Rattle.rules.proofs.Settled.{Settled, passes, refuses, Sane, access-settled}
 use Rattle.rules.proofs.Steps.{refused-why}

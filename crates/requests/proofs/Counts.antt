@@ -3,12 +3,12 @@
 use mathlib.Core.Path.{_≡_, refl}
 use mathlib.Core.Bool.{Bool, true, false}
 use mathlib.Core.List.{List, [], _∷_}
-use Prim.Native.Nat.{ℕ, _+_}
+use Prim.Native.Nat.{ℕ}
 use native.Mathlib.Omega.{arith}
 use Rattle.words.specs.Choice.{pick}
 use Rattle.entries.specs.Entry.{bit}
 use Rattle.rules.specs.Answers.{Told, refused, done, none, closed, opened, already, unfixed, word, count}
-use Rattle.rules.specs.Calls.{Call, step}
+use Rattle.rules.specs.Calls.{step}
 use Rattle.rules.specs.History.{Made, Event, reads, writes, noEvent, byAnswer, accepted, eventOf, event, isOpening, isClosing}
 use Rattle.rules.specs.History.{openings, closings}
 use Rattle.rules.specs.State.{State}
@@ -16,7 +16,7 @@ use Rattle.rules.proofs.HistoryLists.{openings-append, closings-append}
 use Rattle.paging.specs.Walk.{Walked, reaches, stops, Virtual, Mapping, translated}
 use Rattle.requests.specs.Asked.{requested, callThere, comesTo, madeAs, countsAs, counted}
 use Rattle.requests.specs.Counts.{plainEvent, formEvent, namedEvent, eventTold, openingsTold, closingsTold, CountsAreTold}
-use Rattle.requests.specs.Requests.{Request, CALL, PAGE-READ, PAGE-WRITE, PAGE-CHECK, WALK, BY-VA, Reply, tells, hands, names, maps}
+use Rattle.requests.specs.Requests.{Request, CALL, PAGE-READ, PAGE-WRITE, PAGE-CHECK, WALK, BY-VA, tells}
 use Rattle.requests.specs.Requests.{mapped, named, byVirtual, respond}
 use Rattle.requests.specs.Virtual.{Form, VALIDATE, LOAD, STORE, formFits, callOn}
 use Rattle.requests.proofs.AsCalls.{named-made}

@@ -19,8 +19,8 @@ use Rattle.rules.specs.State.{State, sized}
 use Rattle.rules.proofs.Carried.{carried}
 use Rattle.rules.proofs.Cause.{Cause, plain}
 use Rattle.rules.proofs.Steps.{refused-why}
-use Rattle.paging.specs.Met.{beyond, framesMet}
-use Rattle.paging.specs.Walk.{Walked, reaches, stops, Mapping, translated}
+use Rattle.paging.specs.Met.{beyond}
+use Rattle.paging.specs.Walk.{Walked, Mapping}
 use Rattle.paging.proofs.Traced.{Traced, clear, caused, cause-before, cause-after, translated-traced}
 use Rattle.requests.specs.Pages.{pageCheck, pageWrite}
 use Rattle.requests.specs.PageWords.{PageIsReads, whole, empty, PageIsWrites, writes}

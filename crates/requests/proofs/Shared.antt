@@ -1,7 +1,7 @@
 -- A SHARED access, to whichever word: a chain of checks that looks at sizes, arguments and the frame's entry alone. So every access to one
 -- frame passes, or every one is refused alike, and writing words changes nothing of that.
 -- Assumes nothing.
-use mathlib.Core.Path.{_≡_, refl, sym}
+use mathlib.Core.Path.{_≡_, sym}
 use mathlib.Core.Bool.{Bool, true}
 use Prim.Native.Nat.{ℕ, _<_}
 use native.Mathlib.Omega.{arith}

@@ -1,10 +1,10 @@
 -- A call by virtual address is refused, and changes nothing, or is 01's call on what its walk yields: an accepted PVALIDATE, READ or WRITE
 -- has an answer that names the address.
 -- Assumes nothing.
-use mathlib.Core.Path.{_≡_, refl, sym}
+use mathlib.Core.Path.{_≡_, refl}
 use Prim.Native.Nat.{ℕ}
 use Rattle.words.proofs.ChoiceLaws.{pick-either}
-use Rattle.rules.specs.Answers.{Told, outcome, Outcome}
+use Rattle.rules.specs.Answers.{Told}
 use Rattle.rules.specs.Assignment.{validateAnswer}
 use Rattle.rules.specs.Calls.{Call, RMPUPDATE, PVALIDATE, PFIX, PMERGE, PUNMERGE, PUNFIX, READ, WRITE, CENSUS, step}
 use Rattle.rules.specs.State.{State}

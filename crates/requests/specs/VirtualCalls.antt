@@ -1,7 +1,6 @@
 -- What ties Q-4's calls to 01's: the walk changes nothing; and a call by virtual address is refused, and changes nothing, or is 01's call
 -- at the guest address that its answer names, with the same answer, table and memory.
 use mathlib.Core.Path.{_≡_}
-use Prim.Native.Nat.{ℕ}
 use Rattle.rules.specs.Answers.{Told, refused, outcome}
 use Rattle.rules.specs.Calls.{step}
 use Rattle.rules.specs.Refusals.{Refusal}

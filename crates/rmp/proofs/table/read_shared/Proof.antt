@@ -1,6 +1,6 @@
 -- `rmp::table::read_shared` meets its contract: two zero words are the zero entry, and any others are read.
 -- Assumes nothing.
-use mathlib.Core.Path.{sym, _∙_}
+use mathlib.Core.Path.{sym}
 use borrow.Author.Needs.{needs}
 use Rattle.rmp.proofs.table.read_shared.Statement.{statement}
 use Rattle.rmp.proofs.table.read_shared.Tie as tie

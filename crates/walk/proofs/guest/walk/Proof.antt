@@ -1,11 +1,10 @@
 -- `walk::guest::walk` meets its contract: at each turn what is left of the walk, from the table that was reached, is the whole walk.
 -- Assumes nothing.
-use mathlib.Core.Path.{_≡_, refl, sym, _∙_}
-use Prim.Native.Nat.{_/_, _-_, _≤_, _<_}
+use mathlib.Core.Path.{_≡_, sym, _∙_}
+use Prim.Native.Nat.{_-_, _≤_, _<_}
 use native.Mathlib.Omega.{arith}
 use denote.Ref.{now}
 use borrow.Author.Needs.{needs}
-use borrow.Author.Tests.{eqb-true, eqb-false}
 use Rattle.rules.specs.State.{state}
 use Rattle.paging.specs.Entry.{pageOf}
 use Rattle.paging.specs.Walk.{onward, virtual, walked}
