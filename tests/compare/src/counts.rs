@@ -8,7 +8,6 @@ use common::layout::{frame_of, gpa_of, is_present};
 use second::{host_half, walk, Answer, Call, Mapping, Reached, Request, Virtual};
 
 use crate::monitor::Outcome;
-use crate::requests::virtual_address;
 use crate::state::State;
 
 /// What is counted. None may stay at zero.
@@ -99,7 +98,7 @@ pub fn about(request: &Request, before: &State) -> About {
 }
 
 fn by_fixed_table(request: &Request, before: &State) -> Option<bool> {
-    let at = virtual_address(request)?;
+    let at = request.virtual_address()?;
     let State { table, memory } = before;
     let (hpa, _) = host_half(table, memory, at.host_root, at.root).ok()?;
     let frame = frame_of(hpa);
@@ -109,7 +108,7 @@ fn by_fixed_table(request: &Request, before: &State) -> Option<bool> {
 /// The call that a request by virtual address makes in this state, if its walk gets to an end.
 #[rustfmt::skip]
 fn called(request: &Request, before: &State) -> Option<Call> {
-    let Virtual { caller, root, root_type, host_root, va } = virtual_address(request)?;
+    let Virtual { caller, root, root_type, host_root, va } = request.virtual_address()?;
     let State { table, memory } = before;
     let found = walk(table, memory, caller, root, root_type, host_root, va).ok()?;
     let Mapping { gpa, hpa, gtype, ntype } = found;

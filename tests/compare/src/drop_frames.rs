@@ -7,7 +7,7 @@ use common::page_tables::{address_of, with_address, PRESENT};
 use second::Request;
 
 use crate::arguments::Kind;
-use crate::requests::{kinds, numbers, virtual_address, with_numbers};
+use crate::requests::{kinds, numbers, with_numbers};
 use crate::shrink::{fewest, Case, Check};
 use crate::state::State;
 
@@ -52,7 +52,8 @@ fn restricted(case: &Case, kept: &[usize]) -> Case {
             start.put(frame, Entry { address, ..entry });
         }
     }
-    if case.requests.iter().any(|of| virtual_address(of).is_some()) {
+    let mut addresses = case.requests.iter().map(Request::virtual_address);
+    if addresses.any(|va| va.is_some()) {
         rename_entries(&mut start, renamed);
     }
     let requests = case

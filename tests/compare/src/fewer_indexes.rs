@@ -6,13 +6,13 @@ use common::page_tables::{
 };
 
 use crate::arguments::Kind;
-use crate::requests::{self, kinds, numbers, with_numbers};
+use crate::requests::{kinds, numbers, with_numbers};
 use crate::shrink::{Case, Check};
 
 /// Makes indexes lower ones, as long as the fault stays.
 pub fn lower_indexes(case: &mut Case, check: &Check) -> bool {
     let mut requests = case.requests.iter();
-    if requests.all(|request| requests::virtual_address(request).is_none()) {
+    if requests.all(|request| request.virtual_address().is_none()) {
         return false;
     }
     let mut smaller = false;

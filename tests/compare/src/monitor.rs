@@ -9,7 +9,6 @@ use common::answer::{translated, translated_mapping, translated_reached};
 use second::{page_check, page_read, Answer, Call, Mapping, Reached, Refusal, Reply};
 use second::{Request, Virtual};
 
-use crate::requests::virtual_address;
 use crate::state::State;
 
 /// A monitor: it takes requests on a table and a memory that it is lent.
@@ -89,7 +88,7 @@ impl Monitor for Proved {
 /// A call by virtual address by the library.
 #[rustfmt::skip]
 fn proved_by_address<'m>(request: &Request, table: &mut [u64], memory: &mut [u64]) -> Reply<'m> {
-    let at = virtual_address(request).expect("every other request names a virtual address");
+    let at = request.virtual_address().expect("every other request names a virtual address");
     let Virtual { caller, root, root_type, host_root, va } = at;
     Reply::Reached(translated_reached(match *request {
         Request::PvalidateVa { kind, .. } =>

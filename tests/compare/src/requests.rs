@@ -4,7 +4,7 @@
 use std::fmt;
 
 use common::layout::address;
-use second::{Request, Virtual};
+use second::Request;
 
 use crate::arguments::{self, Kind};
 use crate::guided;
@@ -57,17 +57,6 @@ pub fn letter(request: &Request) -> char {
         Request::PvalidateVa { .. } => 'v',
         Request::ReadVa { .. } => 'l',
         Request::WriteVa { .. } => 's',
-    }
-}
-
-/// The virtual address that a request names, if it names one.
-pub fn virtual_address(request: &Request) -> Option<Virtual> {
-    match *request {
-        Request::Walk(at)
-        | Request::PvalidateVa { at, .. }
-        | Request::ReadVa { at, .. }
-        | Request::WriteVa { at, .. } => Some(at),
-        _ => None,
     }
 }
 
@@ -182,6 +171,8 @@ fn print_words(f: &mut fmt::Formatter<'_>, words: &[u64]) -> fmt::Result {
 
 #[cfg(test)]
 mod tests {
+    use second::Virtual;
+
     use super::*;
 
     #[test]

@@ -5,7 +5,7 @@ use second::{Request, Virtual};
 
 use crate::arguments::{any_numbers, index, value, Kind};
 use crate::random::Random;
-use crate::requests::{distorted, virtual_address};
+use crate::requests::distorted;
 use crate::state::State;
 
 /// What the numbers of such a request are.
@@ -21,7 +21,7 @@ pub fn kinds(request: &Request) -> &'static [Kind] {
 
 #[rustfmt::skip]
 pub fn numbers(request: &Request) -> Vec<u64> {
-    let at = virtual_address(request).expect("it names a virtual address");
+    let at = request.virtual_address().expect("it names a virtual address");
     let Virtual { caller, root, root_type, host_root, va } = at;
     let mut numbers = vec![caller, root, root_type, host_root, va];
     match *request {

@@ -224,6 +224,17 @@ pub enum Reply<'m> {
 }
 
 impl Request {
+    /// The virtual address that it names, if it names one.
+    pub fn virtual_address(&self) -> Option<Virtual> {
+        match *self {
+            Self::Walk(at)
+            | Self::PvalidateVa { at, .. }
+            | Self::ReadVa { at, .. }
+            | Self::WriteVa { at, .. } => Some(at),
+            _ => None,
+        }
+    }
+
     /// Makes the request on this table and memory.
     #[rustfmt::skip]
     pub fn make<'m>(&self, table: &mut [u64], memory: &'m mut [u64]) -> Reply<'m> {

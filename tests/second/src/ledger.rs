@@ -80,7 +80,7 @@ impl Ledger {
         if page_fits(request, reply) || walk_refusal_fits(request, reply) {
             return Ok(());
         }
-        let at = virtual_address(request).ok_or(NO_ANSWER)?;
+        let at = request.virtual_address().ok_or(NO_ANSWER)?;
         let mapping = walked(at, table, memory)?;
         match (call_at(request, mapping), reply) {
             (None, Reply::Mapping(Ok(yielded))) if yielded == mapping => Ok(()),
@@ -240,17 +240,6 @@ fn walk_refusal_fits(request: &Request, reply: Reply) -> bool {
             met_by_reads || (number, reason) == (10, 0)
         }
         _ => false,
-    }
-}
-
-/// The virtual address that a request names, if it names one.
-fn virtual_address(request: &Request) -> Option<Virtual> {
-    match *request {
-        Request::Walk(at)
-        | Request::PvalidateVa { at, .. }
-        | Request::ReadVa { at, .. }
-        | Request::WriteVa { at, .. } => Some(at),
-        _ => None,
     }
 }
 

@@ -6,7 +6,6 @@ use std::collections::BTreeSet;
 use common::layout::{ADDRESS_END, FRAME_BYTES, LEAF, SHARED};
 use common::page_tables::{address_of, index, kind_of, GUEST_END, LARGE, LEVELS, PRESENT};
 use compare::monitor::{Monitor, Second};
-use compare::requests::virtual_address;
 use second::{page_check, read, Answer, Call, Mapping, Reached, Reason, Refusal};
 use second::{Reply, Request, Virtual};
 
@@ -74,7 +73,7 @@ impl Monitor for PlantedWalk {
     }
 
     fn reply<'m>(&self, request: &Request, table: &mut [u64], memory: &'m mut [u64]) -> Reply<'m> {
-        let (fault, Some(at)) = (self.fault, virtual_address(request)) else {
+        let (fault, Some(at)) = (self.fault, request.virtual_address()) else {
             return Second.reply(request, table, memory);
         };
         let place = Cell::default();
@@ -318,7 +317,7 @@ impl Monitor for Noting {
     }
 
     fn reply<'m>(&self, request: &Request, table: &mut [u64], memory: &'m mut [u64]) -> Reply<'m> {
-        if let Some(at) = virtual_address(request) {
+        if let Some(at) = request.virtual_address() {
             let (place, fault) = (Cell::default(), Fault::None);
             #[rustfmt::skip]
             let walker = Walker { place, fault, at, table, memory };
