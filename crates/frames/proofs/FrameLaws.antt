@@ -14,7 +14,8 @@ use Rattle.words.specs.Choice.{_and_}
 use Rattle.words.specs.Run.{copied, differing}
 use Rattle.words.proofs.ChoiceLaws.{lt-or-le, same-or-not, pick-true, pick-false, and-not}
 use Rattle.words.proofs.ChoiceLaws.{bounds-kept, first-not, second-not, bounds-either}
-use Rattle.words.proofs.RunLaws.{paste-there, paste-before, paste-after, copied-whole, none-differ}
+use Rattle.words.proofs.CompareLaws.{differing-most, none-differ}
+use Rattle.words.proofs.RunLaws.{paste-there, paste-before, paste-after, copied-whole}
 use Rattle.frames.specs.Frame.{frameCount, isFramed, wordIn, frameIn, zeros, putWord, putFrame, differingIn}
 
 -- a frame that memory has is a whole run of it
@@ -232,6 +233,17 @@ module _ (m : List ℕ) (f g : ℕ) where
   pub differing-outside-two : frameCount m ≤ g → differingIn m f g ≡ 0
   unfolding differingIn
   differing-outside-two = second-not f (frameCount m) g (frameCount m) _ _
+
+  -- 512 at most
+  pub differing-within : differingIn m f g ≤ 512
+  differing-within =
+      ⊎-elim
+      (λ h. ⊎-elim
+      (λ k. rw (differing-is h k) (differing-most (frameIn m f) (frameIn m g) 512))
+      (λ k. rw (differing-outside-two k) (omega arith))
+      (lt-or-le g (frameCount m)))
+      (λ h. rw (differing-outside-one h) (omega arith))
+      (lt-or-le f (frameCount m))
 
   pub same-words : differingIn m f g ≡ 0 → f < frameCount m → g < frameCount m → (i : ℕ) → wordIn m f i ≡ wordIn m g i
   same-words e h k i =

@@ -2,6 +2,7 @@
 // zero and a change changes nothing.
 ghost use mathlib.Core.Path.{_≡_};
 ghost use Rattle.frames.specs.Frame.{frameCount, isFramed, wordIn, frameIn, zeros, putWord, putFrame, differingIn};
+use words::compare;
 use words::run;
 
 // How many whole frames memory has.
@@ -105,7 +106,7 @@ pub fn differing(memory: &[u64], one: usize, two: usize) -> u64
             let b = 512 * two;
             let a_end = a + 512;
             let b_end = b + 512;
-            return run::differing(&memory[a..a_end], &memory[b..b_end]);
+            return compare::differing(&memory[a..a_end], &memory[b..b_end]);
         }
     }
     0

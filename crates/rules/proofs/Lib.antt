@@ -8,6 +8,7 @@ pub mod Cause
 pub mod CensusLaws
 pub mod Chain
 pub mod Changes
+pub mod Comparison
 pub mod Consulted
 pub mod Effects
 pub mod FirstReason

@@ -9,11 +9,12 @@ use mathlib.Core.Logic.{_≢_}
 use Prim.Native.Nat.{ℕ, suc, _≤_, _<_}
 use lib.ListN.{length, getD}
 use borrow.Author.Tests.{leb-true, ltb-true, ltb-false}
+use Rattle.words.specs.Run.{differing}
 use Rattle.words.proofs.ChoiceLaws.{and-left, and-right}
 use Rattle.frames.specs.Frame.{zeros}
 use Rattle.frames.proofs.FrameLaws.{count-putWord, framed-putWord, word-put-same, word-put-other-frame, word-put-other-index}
 use Rattle.frames.proofs.FrameLaws.{count-putFrame, framed-putFrame, word-frame-same, word-frame-other, word-zeroed, word-copied}
-use Rattle.frames.proofs.FrameLaws.{frame-long, frame-word, same-words, putWords, words-are-frame}
+use Rattle.frames.proofs.FrameLaws.{frame-long, frame-word, differing-is, differing-within, same-words, putWords, words-are-frame}
 use Rattle.entries.specs.Entry.{frameOf, zeroEntry, WellFormed}
 use Rattle.entries.specs.declared.entry.Entry.{Entry}
 use Rattle.entries.specs.declared.entry.Decoded.the-variants.{Good, Bad}
@@ -180,7 +181,15 @@ module _ (s : State) (f : ℕ) where
   unfolding frameAt wordAt M
   frame-has h = (frame-long (s .memory) f h, λ i. frame-word (s .memory) f i h)
 
-  -- two frames with no differing word
+  -- two frames compared, and two with no differing word
+  pub differing-words : (g : ℕ) → f < M s → g < M s → differingAt s f g ≡ differing (frameAt s f) (frameAt s g) 512
+  unfolding differingAt frameAt M
+  differing-words g h k = differing-is (s .memory) f g h k
+
+  pub differing-few : (g : ℕ) → differingAt s f g ≤ 512
+  unfolding differingAt
+  differing-few g = differing-within (s .memory) f g
+
   pub equal-words : (g : ℕ) → differingAt s f g ≡ 0 → f < M s → g < M s → (i : ℕ) → wordAt s f i ≡ wordAt s g i
   unfolding wordAt differingAt M
   equal-words g e h k i = same-words (s .memory) f g e h k i

@@ -21,7 +21,7 @@ use Rattle.rules.specs.Assignment.{rmpupdate, pvalidate}
 use Rattle.rules.specs.Calls.{Call, RMPUPDATE, PVALIDATE, PFIX, PMERGE, PUNMERGE, PUNFIX, READ, WRITE, CENSUS, step}
 use Rattle.rules.specs.Census.{Tally, total, stopped, reported, census}
 use Rattle.rules.specs.Leaves.{isLeaf}
-use Rattle.rules.specs.Merging.{pfix, pmerge, punmerge, punfix}
+use Rattle.rules.specs.Merging.{pfix, pmergeBy, pmerge, punmerge, punfix}
 use Rattle.rules.specs.Reasons.{framesOf}
 use Rattle.rules.specs.Refusals.{Refusal, TYPE}
 use Rattle.rules.specs.State.{State, N, covers}
@@ -118,7 +118,7 @@ module _ (s : State) where
       }))
 
   merge-stepped : (caller hpa1 hpa2 : ℕ) → Stepped s (PMERGE caller hpa1 hpa2) (pmerge s caller hpa1 hpa2)
-  unfolding pmerge bothEntered framesOf
+  unfolding pmerge pmergeBy bothEntered framesOf
   merge-stepped caller hpa1 hpa2 =
       begun _ _ _ _ λ size arguments host inside.
       decoded-by _ _ _ refl (covered-frame s _ (and-left _ _ inside)) λ one here1.

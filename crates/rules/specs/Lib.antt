@@ -6,6 +6,7 @@ pub mod Assignment
 pub mod Balance
 pub mod Calls
 pub mod Census
+pub mod Comparison
 pub mod History
 pub mod Leaves
 pub mod Merging

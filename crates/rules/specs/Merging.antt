@@ -1,5 +1,5 @@
--- 01, "The calls": PFIX, PMERGE, PUNMERGE and PUNFIX, the last with 02, Q-3.
-use mathlib.Core.Bool.{true, false}
+-- 01, "The calls": PFIX, PMERGE, PUNMERGE and PUNFIX, with 02, Q-5, for PMERGE and Q-3 for PUNFIX.
+use mathlib.Core.Bool.{Bool, true, false}
 use Prim.Native.Nat.{ℕ}
 use lib.Dec.{eqb}
 use Rattle.words.specs.Choice.{_and_}
@@ -35,9 +35,10 @@ unfoldable pub merging : State → Entry → ℕ → Entry → State
 merging s one frame2 two =
     withEntry (withFrame (withWord s (leafFrame one) (two .asid) (presentAt (two .address))) frame2 zeros) frame2 zeroEntry
 
--- PMERGE: "5 (both), 6 (either not MERGEABLE), 11 (hpa1), 10 (hpa2), 9 (hpa2), 12, 14 (word of hpa2's ASID in hpa1's leaf), 16."
-unfoldable pub pmerge : State → ℕ → ℕ → ℕ → Outcome
-pmerge s caller hpa1 hpa2 =
+-- PMERGE: "5 (both), 6 (either not MERGEABLE), 11 (hpa1), 10 (hpa2), 9 (hpa2), 12, 14 (word of hpa2's ASID in hpa1's leaf), 16", the last by
+-- whether the two frames are equal
+unfoldable pub pmergeBy : Bool → State → ℕ → ℕ → ℕ → Outcome
+pmergeBy equal s caller hpa1 hpa2 =
     settle s
     (begins s (twoFrameArguments caller hpa1 hpa2) (isHost caller) (covers s hpa1 and covers s hpa2)
     (bothEntered (entryAt s (frameOf hpa1)) (entryAt s (frameOf hpa2)) λ one two.
@@ -46,8 +47,12 @@ pmerge s caller hpa1 hpa2 =
     (when (two .fixed) FIXED
     (unless (two .validated) NOT-VALIDATED
     (vacant (consulted s one (two .asid))
-    (unless (eqb (differingAt s (frameOf hpa1) (frameOf hpa2)) 0) CONTENTS
+    (unless equal CONTENTS
     (grant done (merging s one (frameOf hpa2) two)))))))))
+
+-- 02, Q-5: "it answers exactly how many of them differ, and 16 is given in its old place when that is not zero."
+unfoldable pub pmerge : State → ℕ → ℕ → ℕ → Outcome
+pmerge s caller hpa1 hpa2 = pmergeBy (eqb (differingAt s (frameOf hpa1) (frameOf hpa2)) 0) s caller hpa1 hpa2
 
 -- "frame 1 is copied to frame 2; entry 2 is asid, MERGEABLE, VALIDATED, unfixed, with the leaf word's address; the leaf word is zeroed"
 unfoldable pub unmerging : State → ℕ → Entry → ℕ → ℕ → ℕ → State

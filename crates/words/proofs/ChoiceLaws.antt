@@ -49,6 +49,10 @@ module _ (s t : Bool) where
   unfolding _and_
   both-true h k = rw (h, k)
 
+  pub and-holds : t ≡ true → s and t ≡ s
+  unfolding _and_
+  and-holds h = elim s [ true ↦ h | false ↦ refl ]
+
   pub and-not : t ≡ false → s and t ≡ false
   unfolding _and_
   and-not h = elim s [ true ↦ h | false ↦ refl ]

@@ -63,29 +63,3 @@ copied-whole target source e =
     let all : min (length target) (length source) ≡ length source = omega arith in
     let none : drop (0 + length source) target ≡ [] = drop-of-length-le target {i = 0 + length source} (omega arith) in
     rw (all, none, append-nil, take-length)
-
--- none of no words differ, and the next word differs or not
-pub differing-none : (a b : List ℕ) → differing a b 0 ≡ 0
-unfolding differing
-differing-none a b = refl
-
-pub differing-same : (a b : List ℕ) (n : ℕ) → getD a n 0 ≡ getD b n 0 → differing a b (n + 1) ≡ differing a b n
-unfolding differing pick
-differing-same a b n e = rw (add-one n, eq-eqb _ _ e) (omega arith)
-
-pub differing-more : (a b : List ℕ) (n : ℕ) → (getD a n 0 ≡ getD b n 0 → ⊥) → differing a b (n + 1) ≡ differing a b n + 1
-unfolding differing pick
-differing-more a b n e = rw (add-one n, ne-eqb _ _ e)
-
--- two runs with no differing word among the first n agree at every place below n
-pub none-differ : (a b : List ℕ) (n : ℕ) → differing a b n ≡ 0 → (k : ℕ) → k < n → getD a k 0 ≡ getD b k 0
-unfolding differing pick
-none-differ a b zero e k h = omega arith
-none-differ a b (suc n) e k h = go (eqb (getD a n 0) (getD b n 0)) refl e (none-differ a b n) (lt-or-le k n)
-  where
-    go :
-        (t : Bool) → eqb (getD a n 0) (getD b n 0) ≡ t → differing a b n + pick t 0 1 ≡ 0
-        → (differing a b n ≡ 0 → (k : ℕ) → k < n → getD a k 0 ≡ getD b k 0) → (k < n) ⊎ (n ≤ k) → getD a k 0 ≡ getD b k 0
-    go t q z rest (inl l) = rest (omega arith) k l
-    go true q z rest (inr l) = let i : k ≡ n = omega arith in rw i (eqb-true _ _ q)
-    go false q z rest (inr l) = omega arith

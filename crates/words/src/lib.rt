@@ -1,2 +1,3 @@
 // Runs of 64-bit words, of any length.
+pub mod compare;
 pub mod run;

@@ -2,7 +2,7 @@
 ghost use mathlib.Core.Path.{_≡_};
 ghost use Prim.Native.Nat.{min};
 ghost use lib.ListN.{length, replicate};
-ghost use Rattle.words.specs.Run.{copied, differing};
+ghost use Rattle.words.specs.Run.{copied};
 
 // Every word becomes zero.
 pub fn zero(run: &mut [u64])
@@ -30,21 +30,4 @@ pub fn copy(target: &mut [u64], source: &[u64])
         target[i] = source[i];
         i += 1;
     }
-}
-
-// How many words differ from the word at the same place of the other run, up to the end of the shorter one. Every word is read, and
-// equal words are counted: a vector instruction tests for equal and none for different.
-pub fn differing(a: &[u64], b: &[u64]) -> u64
-    ensures { λ r. ⌜ r ≡ differing (now (a .entry)) (now (b .entry)) (min (length (now (a .entry))) (length (now (b .entry)))) ⌝ }
-{
-    let n = if a.len() < b.len() { a.len() } else { b.len() };
-    let mut same: u64 = 0;
-    let mut i = 0;
-    while i < n {
-        if a[i] == b[i] {
-            same += 1;
-        }
-        i += 1;
-    }
-    n as u64 - same
 }

@@ -17,7 +17,7 @@ use Rattle.rules.specs.Calls.{Call, step}
 use Rattle.rules.specs.Census.{inLeaf, inEntry, holding, counted, tally, reported, census}
 use Rattle.rules.specs.Leaves.{leafFrame, isLeaf, consulted, placed, vacant, namesLeaf, leafInUse, presentWords, lastPresent}
 use Rattle.rules.specs.Leaves.{ofGuest, remaining}
-use Rattle.rules.specs.Merging.{fixing, pfix, merging, pmerge, unmerging, punmerge, unfixing, punfix}
+use Rattle.rules.specs.Merging.{fixing, pfix, merging, pmergeBy, pmerge, unmerging, punmerge, unfixing, punfix}
 use Rattle.rules.specs.State.{State, N, M, sized, covers, entryAt, wordAt, frameAt, differingAt, withEntry, withWord, withFrame}
 
 unfoldable pub computed : State → Call → Outcome
@@ -27,6 +27,6 @@ unfolding pick _and_ _or_ differing odd lastOdd frameCount isFramed wordIn frame
     write settle unless when begins entered bothEntered isParty isGuest isHost updateArguments
     validateArguments twoFrameArguments unmergeArguments oneFrameArguments
     accessArguments mayAccess assigning updateAnswer rmpupdate validating validateAnswer pvalidate step inLeaf inEntry holding counted tally
-    reported census leafFrame isLeaf consulted placed vacant namesLeaf leafInUse presentWords lastPresent ofGuest remaining fixing pfix merging pmerge
-    unmerging punmerge unfixing punfix N M sized covers frameOf entryAt wordAt frameAt differingAt withEntry withWord withFrame
+    reported census leafFrame isLeaf consulted placed vacant namesLeaf leafInUse presentWords lastPresent ofGuest remaining fixing pfix merging pmergeBy
+    pmerge unmerging punmerge unfixing punfix N M sized covers frameOf entryAt wordAt frameAt differingAt withEntry withWord withFrame
 computed s call = step s call

@@ -1,7 +1,7 @@
 -- `merging::merge::check_merge` meets its contract: what the entries of the named frames, and then the pages, come to, is the rule.
 -- Assumes nothing.
 use borrow.Author.Needs.{needs}
-use Rattle.rules.specs.Merging.{pmerge}
+use Rattle.rules.specs.Merging.{pmergeBy, pmerge}
 use Rattle.rules.specs.State.{entryAt}
 use Rattle.checks.proofs.NamedLaws.{two-checked}
 use Rattle.checks.specs.Gate.{past}
@@ -25,7 +25,7 @@ enum-told : tie.Need-enum-told
 enum-told c = search needs
 
 returns : tie.Need-returns
-unfolding pmerge withBothNamed entryAt
+unfolding pmerge pmergeBy withBothNamed entryAt
 returns c = let at-second = c .before .before in let at-first = at-second .before in
     rw (
       ← at-first .before .begin-two-frames .ensures,
@@ -46,7 +46,7 @@ enum-known-may : tie.Need-enum-known-may
 enum-known-may c = search needs
 
 returns-2 : tie.Need-returns-2
-unfolding pmerge withBothNamed entryAt past
+unfolding pmerge pmergeBy withBothNamed entryAt past
 returns-2 c = let at-may = c .before .before .before in let at-frame2 = at-may .before in let at-frame1 = at-frame2 .before in
     let at-both = at-frame1 .before .before in let at-second = at-both .before .before in let at-first = at-second .before in
     rw (
@@ -63,7 +63,7 @@ enum-told-2 : tie.Need-enum-told-2
 enum-told-2 c = search needs
 
 returns-3 : tie.Need-returns-3
-unfolding pmerge withBothNamed entryAt past
+unfolding pmerge pmergeBy withBothNamed entryAt past
 returns-3 c = let at-may = c .before .before in let at-frame2 = at-may .before in let at-frame1 = at-frame2 .before in
     let at-both = at-frame1 .before .before in let at-second = at-both .before .before in let at-first = at-second .before in
     rw (
