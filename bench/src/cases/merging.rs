@@ -1,5 +1,7 @@
 //! PMERGE, accepted and refused with 16, and PUNMERGE.
 
+use std::ops::Range;
+
 use common::layout::{address, present, word_at, Entry, ENTRY_WORDS, FRAME_WORDS};
 use skorbilek::HOST;
 
@@ -50,18 +52,25 @@ pub fn merged(n: usize) -> Scene<Pmerge, ENTRY_WORDS, 1> {
 
 /// PMERGE of frames whose last words differ.
 pub fn last_differs(n: usize) -> Scene<Pmerge, 0, 0> {
-    differ(n, FRAME_WORDS - 1)
+    differ(n, FRAME_WORDS - 1..FRAME_WORDS)
 }
 
 /// PMERGE of frames whose first words differ.
 pub fn first_differs(n: usize) -> Scene<Pmerge, 0, 0> {
-    differ(n, 0)
+    differ(n, 0..1)
 }
 
-fn differ(n: usize, index: usize) -> Scene<Pmerge, 0, 0> {
+/// PMERGE of frames that differ in every word.
+pub fn all_differ(n: usize) -> Scene<Pmerge, 0, 0> {
+    differ(n, 0..FRAME_WORDS)
+}
+
+fn differ(n: usize, indexes: Range<usize>) -> Scene<Pmerge, 0, 0> {
     let mut world = equal_pages(n, SLOTS);
     for (_, _, two) in (0..SLOTS).map(frames) {
-        world.set(two, index, 1);
+        for index in indexes.clone() {
+            world.set(two, index, 1);
+        }
     }
     let turns = (0..SLOTS).map(|slot| Turn::steady(merge(slot).call));
     Scene {

@@ -91,7 +91,7 @@ pub const ACCEPTED: [Case; 24] = [
 ];
 
 /// Refused calls, on warm frames.
-pub const REFUSED: [Case; 25] = [
+pub const REFUSED: [Case; 26] = [
     case!(
         "PMERGE, 16: the last word differs",
         Expect::Refused(16),
@@ -101,6 +101,11 @@ pub const REFUSED: [Case; 25] = [
         "PMERGE, 16: the first word differs",
         Expect::Refused(16),
         merging::first_differs
+    ),
+    case!(
+        "PMERGE, 16: all words differ",
+        Expect::Refused(16),
+        merging::all_differ
     ),
     case!(
         "PUNFIX, 17: the last word is present too",

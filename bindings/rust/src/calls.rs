@@ -131,7 +131,8 @@ pub fn pfix(
 }
 
 /// PMERGE: the host merges the page at `hpa2` into the fixed page at `hpa1`, which has equal contents; the frame at `hpa2` becomes
-/// SHARED. Answers [`Answer::Done`].
+/// SHARED. Answers [`Answer::Done`]. Where it compares the two frames it reads all of both, by the same instructions whatever they
+/// hold: which words differ, the time does not tell.
 ///
 /// ```
 /// # use skorbilek::*;
