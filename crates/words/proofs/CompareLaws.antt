@@ -1,7 +1,7 @@
 -- Two runs compared: how many words differ, word by word and a row of four at a time; no more differ than there are; and where none
 -- differs, the runs agree at every place, and else they do not. For runs of any length.
 -- Assumes nothing.
-use mathlib.Core.Path.{_≡_, refl, sym, ap, _∙_}
+use mathlib.Core.Path.{_≡_, refl, sym, _∙_}
 use mathlib.Core.Bool.{Bool, true, false}
 use mathlib.Core.List.{List}
 use mathlib.Core.Logic.{_⊎_, inl, inr}

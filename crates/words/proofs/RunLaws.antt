@@ -1,21 +1,14 @@
--- A run pasted over words: the run stands where it was laid, and every other word stays; two runs with no differing word agree at every
--- place. For runs of any length.
+-- A run pasted over words: the run stands where it was laid, and every other word stays. For runs of any length.
 -- Assumes nothing.
-use mathlib.Core.Path.{_≡_, refl, sym, ap, _∙_}
-use mathlib.Core.Bool.{Bool, true, false}
+use mathlib.Core.Path.{_≡_, sym, ap, _∙_}
 use mathlib.Core.List.{List, [], _++_, append-nil}
-use mathlib.Core.Logic.{_⊎_, inl, inr}
-use Prim.Native.Nat.{ℕ, zero, suc, min, _+_, _-_, _≤_, _<_}
+use Prim.Native.Nat.{ℕ, min, _+_, _-_, _≤_, _<_}
 use native.Mathlib.Nat.{zero-add}
 use native.Mathlib.Numerals.{add-one}
 use native.Mathlib.Omega.{arith}
-use lib.Dec.{eqb}
 use lib.ListN.{length, getD, set, take, drop, drop-of-length-le, List·getD-append}
 use lib.Seq.{paste, getD-append-add, getD-take, getD-drop, length-take-le, take-length, paste-suc, length-paste-head}
-use borrow.Author.Tests.{eqb-true, eq-eqb, ne-eqb}
-use Rattle.words.specs.Choice.{pick}
-use Rattle.words.specs.Run.{copied, differing}
-use Rattle.words.proofs.ChoiceLaws.{lt-or-le}
+use Rattle.words.specs.Run.{copied}
 
 -- the words after a paste: the run's where it was laid, and before and after it those that stood there
 module _ (words : List ℕ) (at : ℕ) (run : List ℕ) (n : ℕ) (room : at + n ≤ length words) (enough : n ≤ length run) where

@@ -1,6 +1,5 @@
 // Runs of 64-bit words, of any length.
 ghost use mathlib.Core.Path.{_≡_};
-ghost use Prim.Native.Nat.{min};
 ghost use lib.ListN.{length, replicate};
 ghost use Rattle.words.specs.Run.{copied};
 

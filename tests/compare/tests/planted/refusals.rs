@@ -30,13 +30,24 @@ fn is_left_by_owner(table: &[u64], memory: &[u64], hpa: u64) -> bool {
     !is_present(memory[leaf_word(table, hpa, entry(table, hpa).asid)])
 }
 
-pub const FAULTS: [Planted; 31] = [
+pub const FAULTS: [Planted; 32] = [
     Planted {
         name: "PMERGE overwrites a leaf word (14 is skipped)",
         make: |call, table, memory| match (call.make(table, memory), *call) {
             (Answer::Refused { number: 14, .. }, Call::Pmerge { hpa1, hpa2, .. }) => {
                 let word = leaf_word(table, hpa1, entry(table, hpa2).asid);
                 accepted(call, table, memory, |_, memory| memory[word] = 0).unwrap_or(refused(16))
+            }
+            (answer, _) => answer,
+        },
+    },
+    Planted {
+        name: "PMERGE compares all words but the last",
+        make: |call, table, memory| match (call.make(table, memory), *call) {
+            (Answer::Refused { number: 16, .. }, Call::Pmerge { hpa1, hpa2, .. }) => {
+                let (from, to) = (words(hpa1).end - 1, words(hpa2).end - 1);
+                accepted(call, table, memory, |_, memory| memory[to] = memory[from])
+                    .unwrap_or(refused(16))
             }
             (answer, _) => answer,
         },

@@ -31,15 +31,16 @@ with-row-requires-4 c κs = search needs
 
 returns : tie.Need-returns
 returns c =
-    let args = c .before .before .before .before .before .before .args in
-    let a = args .one .now in let b = args .two .now in let at = args .at in
     let first = c .before .before .before .with-row in
     let second = c .before .before .with-row2 in
     let third = c .before .with-row3 in
-    let one = row-counted a b at (at + 4) (args .self) (first .result) refl (c .before .before .before .before .before .before .pre .3) (first .ensures .0) in
+    let fourth = c .with-row4 in
+    let start = c .before .before .before .before .before .before in
+    let a = start .args .one .now in let b = start .args .two .now in let at = start .args .at in
+    let one = row-counted a b at (at + 4) (start .args .self) (first .result) refl (start .pre .3) (first .ensures .0) in
     let two = row-counted a b (at + 4) (at + 8) (first .result) (second .result) (omega arith) one (second .ensures .0) in
     let three = row-counted a b (at + 8) (at + 12) (second .result) (third .result) (omega arith) two (third .ensures .0) in
-    row-counted a b (at + 12) (at + 16) (third .result) (c .with-row4 .result) (omega arith) three (c .with-row4 .ensures .0)
+    row-counted a b (at + 12) (at + 16) (third .result) (fourth .result) (omega arith) three (fourth .ensures .0)
 
 pub with-rows-spec : {M : Type 1} → statement M
 with-rows-spec =
