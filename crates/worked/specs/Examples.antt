@@ -101,6 +101,8 @@ examples =
     ∷ refuses leafTaken (PFIX 0 0 0x2000) 15
     ∷ accepts fixedPage (PMERGE 0 0 0x1000) done mergedPage
     ∷ refuses (state (fixedPage .table) (page 3 0x2a ++ (page 3 0x2b ++ page 7 0x50001))) (PMERGE 0 0 0x1000) 16
+    ∷ refuses (state (fixedPage .table) (page 3 0x2a ++ (pageOfTwo 0 1 3 0x2a ++ page 7 0x50001))) (PMERGE 0 0 0x1000) 16
+    ∷ refuses (state (fixedPage .table) (page 3 0x2a ++ (pageOfTwo 3 0x2a 511 1 ++ page 7 0x50001))) (PMERGE 0 0 0x1000) 16
     ∷ refuses (state (fixedPage .table) (page 3 0x2a ++ (page 3 0x2a ++ pageOfTwo 7 0x50001 9 0x70001))) (PMERGE 0 0 0x1000) 14
     ∷ accepts mergedPage (PUNMERGE 0 0 0x1000 9) done fixedPage
     ∷ refuses mergedPage (PUNMERGE 0 0 0x1000 8) 13
