@@ -1,9 +1,7 @@
 // Two runs of words compared. Every word of both is read, whatever the words hold.
 ghost use mathlib.Core.Path.{_≡_};
 ghost use Prim.Native.Nat.{min, _+_, _*_, _<_, _≤_, _^_};
-ghost use lib.Dec.{eqb};
 ghost use lib.ListN.{length};
-ghost use Rattle.words.specs.Choice.{pick};
 ghost use Rattle.words.specs.Rows.{sameAt, total};
 ghost use Rattle.words.specs.Run.{differing};
 
@@ -90,10 +88,10 @@ impl Same {
         ensures most { λ r. ⌜ total r ≤ total self + 4 ⌝ }
     {
         Same {
-            a: self.a + is_same(one[at], two[at]),
-            b: self.b + is_same(one[at + 1], two[at + 1]),
-            c: self.c + is_same(one[at + 2], two[at + 2]),
-            d: self.d + is_same(one[at + 3], two[at + 3]),
+            a: self.a + same_at(one, two, at),
+            b: self.b + same_at(one, two, at + 1),
+            c: self.c + same_at(one, two, at + 2),
+            d: self.d + same_at(one, two, at + 3),
         }
     }
 
@@ -110,12 +108,13 @@ impl Same {
     }
 }
 
-// 1 where two words are the same, and else 0.
-fn is_same(x: u64, y: u64) -> u32
-    ensures is { λ r. ⌜ r ≡ pick (eqb x y) 1 0 ⌝ }
+// 1 where the words at a place are the same, and else 0.
+fn same_at(one: &[u64], two: &[u64], at: usize) -> u32
+    requires { ⌜ (at < length (now one)) × (at < length (now two)) ⌝ }
+    ensures is { λ r. ⌜ r ≡ sameAt (now (one .entry)) (now (two .entry)) at ⌝ }
     ensures most { λ r. ⌜ r ≤ 1 ⌝ }
 {
-    if x == y {
+    if one[at] == two[at] {
         return 1;
     }
     0
