@@ -110,8 +110,9 @@ skorbilek_answer skorbilek_pvalidate(uint64_t *table, size_t table_words, const 
 skorbilek_answer skorbilek_pfix(uint64_t *table, size_t table_words, uint64_t *memory, size_t memory_words, uint64_t caller,
                                 uint64_t hpa, uint64_t leaf);
 
-/* PMERGE: the host merges the page at hpa2 into the fixed page at hpa1, which has equal contents; hpa2 becomes SHARED. Answers DONE. Where it
-   compares the two frames it reads all of both, by the same instructions whatever they hold: which words differ, the time does not tell. */
+/* PMERGE: the host merges the page at hpa2 into the fixed page at hpa1, which has equal contents; hpa2 becomes SHARED. Where it compares
+   the two frames it reads all of both, by the same instructions whatever they hold: which words differ, the time does not tell. Answers
+   DONE. */
 skorbilek_answer skorbilek_pmerge(uint64_t *table, size_t table_words, uint64_t *memory, size_t memory_words, uint64_t caller,
                                   uint64_t hpa1, uint64_t hpa2);
 

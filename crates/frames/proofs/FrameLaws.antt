@@ -236,14 +236,10 @@ module _ (m : List ℕ) (f g : ℕ) where
 
   -- 512 at most
   pub differing-within : differingIn m f g ≤ 512
+  unfolding differingIn
   differing-within =
-      ⊎-elim
-      (λ h. ⊎-elim
-      (λ k. rw (differing-is h k) (differing-most (frameIn m f) (frameIn m g) 512))
-      (λ k. rw (differing-outside-two k) (omega arith))
-      (lt-or-le g (frameCount m)))
-      (λ h. rw (differing-outside-one h) (omega arith))
-      (lt-or-le f (frameCount m))
+      bounds-either f (frameCount m) g (frameCount m) _ _ (λ (n : ℕ). n ≤ 512) (λ h k. differing-most (frameIn m f) (frameIn m g) 512)
+      (omega arith)
 
   pub same-words : differingIn m f g ≡ 0 → f < frameCount m → g < frameCount m → (i : ℕ) → wordIn m f i ≡ wordIn m g i
   same-words e h k i =

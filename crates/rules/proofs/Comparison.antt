@@ -10,7 +10,7 @@ use lib.Dec.{eqb}
 use Rattle.words.specs.Choice.{pick, _and_}
 use Rattle.words.specs.Run.{differing}
 use Rattle.words.proofs.ChoiceLaws.{true-or-false, and-left, and-right}
-use Rattle.words.proofs.CompareLaws.{none-of-none, none-of-next}
+use Rattle.words.proofs.CompareLaws.{differing-none, none-of-next}
 use Rattle.entries.specs.Entry.{frameOf}
 use Rattle.rules.specs.Answers.{Verdict, settle, unless, begins}
 use Rattle.rules.specs.Calls.{step}
@@ -23,7 +23,7 @@ use Rattle.rules.proofs.StateLaws.{sizes, covered-frame, frame-has, dif
 module _ (s : State) (f g : ℕ) (has-f : f < M s) (has-g : g < M s) where
   one-by-one : (n : ℕ) → eqb (differing (frameAt s f) (frameAt s g) n) 0 ≡ allEqual s f g n
   unfolding allEqual
-  one-by-one zero = none-of-none _ _
+  one-by-one zero = rw differing-none
   one-by-one (suc n) = rw (none-of-next, one-by-one n, frame-has s f has-f .1, frame-has s g has-g .1)
 
   none-where-equal : eqb (differingAt s f g) 0 ≡ allEqual s f g 512

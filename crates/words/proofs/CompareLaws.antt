@@ -76,11 +76,7 @@ none-differ a b (suc n) e k h = go (eqb (getD a n 0) (getD b n 0)) refl e (none-
     go true q z rest (inr l) = let i : k ≡ n = omega arith in rw i (eqb-true _ _ q)
     go false q z rest (inr l) = omega arith
 
--- no word differs among none, nor among one more where that one is the same
-pub none-of-none : (a b : List ℕ) → eqb (differing a b 0) 0 ≡ true
-unfolding differing
-none-of-none a b = refl
-
+-- no word differs among one more where none did, and that one is the same
 pub none-of-next :
     (a b : List ℕ) (n : ℕ) → eqb (differing a b (suc n)) 0 ≡ eqb (differing a b n) 0 and eqb (getD a n 0) (getD b n 0)
 unfolding differing pick

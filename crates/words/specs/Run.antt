@@ -12,7 +12,7 @@ use Rattle.words.specs.Choice.{pick}
 unfoldable pub copied : List ℕ → List ℕ → List ℕ
 copied target source = paste target 0 source (min (length target) (length source))
 
--- 02, Q-5: "it answers exactly how many of them differ". Of the first n words of two runs; past its end a run counts as zero.
+-- how many of the first n words of two runs differ; past its end a run counts as zero. 02, Q-5: "it answers exactly how many of them differ"
 unfoldable pub differing : List ℕ → List ℕ → ℕ → ℕ
 differing a b zero = 0
 differing a b (suc n) = differing a b n + pick (eqb (getD a n 0) (getD b n 0)) 0 1

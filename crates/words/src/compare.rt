@@ -1,4 +1,4 @@
-// Two runs of words compared. Every word of both is read, whatever the words hold.
+// Two runs of words compared, up to the end of the shorter one. Every word up to there is read, whatever the words are.
 ghost use mathlib.Core.Path.{_≡_};
 ghost use Prim.Native.Nat.{min, _+_, _*_, _<_, _≤_, _^_};
 ghost use lib.ListN.{length};
