@@ -17,7 +17,8 @@ pub same_or_not : (a b : ℕ) → (a ≡ b) ⊎ (a ≢ b)
 same_or_not a b = elim (ℕ_discrete a b) [ yes h ↦ inl h | no h ↦ inr h ]
 
 pub true_or_false : (t : Bool) → (t ≡ true) ⊎ (t ≡ false)
-true_or_false t = elim t [ true ↦ inl refl | false ↦ inr refl ]
+true_or_false true = inl refl
+true_or_false false = inr refl
 
 pub pick_true : {A : Type 0} {t : Bool} (a b : A) → t ≡ true → pick t a b ≡ a
 unfolding pick
@@ -39,11 +40,11 @@ pick_same false a = pick_false _ _ refl
 module _ (s t : Bool) where
   pub and_left : s and t ≡ true → s ≡ true
   unfolding ◌and◌
-  and_left = elim s [ true ↦ λ e. refl | false ↦ λ e. e ]
+  and_left = elim s as (λ k. k and t ≡ true → k ≡ true) [ true ↦ λ e. refl | false ↦ λ e. e ]
 
   pub and_right : s and t ≡ true → t ≡ true
   unfolding ◌and◌
-  and_right = elim s [ true ↦ λ e. e | false ↦ λ e. absurd (false≢true e) ]
+  and_right = elim s as (λ k. k and t ≡ true → t ≡ true) [ true ↦ λ e. e | false ↦ λ e. absurd (false≢true e) ]
 
   pub both_true : s ≡ true → t ≡ true → s and t ≡ true
   unfolding ◌and◌
@@ -51,15 +52,16 @@ module _ (s t : Bool) where
 
   pub and_holds : t ≡ true → s and t ≡ s
   unfolding ◌and◌
-  and_holds h = elim s [ true ↦ h | false ↦ refl ]
+  and_holds h = elim s as (λ k. k and t ≡ k) [ true ↦ h | false ↦ refl ]
 
   pub and_not : t ≡ false → s and t ≡ false
   unfolding ◌and◌
-  and_not h = elim s [ true ↦ h | false ↦ refl ]
+  and_not h = elim s as (λ k. k and t ≡ false) [ true ↦ h | false ↦ refl ]
 
   pub or_cases : s or t ≡ true → (s ≡ true) ⊎ (t ≡ true)
   unfolding ◌or◌
-  or_cases = elim s [ true ↦ λ e. inl refl | false ↦ λ e. inr e ]
+  or_cases =
+      elim s as (λ k. k or t ≡ true → (k ≡ true) ⊎ (t ≡ true)) [ true ↦ λ e. inl refl | false ↦ λ e. inr e ]
 
 pub or_true : (t : Bool) → t or true ≡ true
 unfolding ◌or◌

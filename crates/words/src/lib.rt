@@ -1,3 +1,5 @@
 // Runs of 64-bit words, of any length.
+#![tactic(auto)]
+
 pub mod compare;
 pub mod run;
