@@ -25,7 +25,7 @@ pub const READING: bool = false;
 pub const WRITING: bool = true;
 
 // The frame that an access reaches: a SHARED one, which needs no more checks, a page of a guest, or a refusal.
-#[derive(Drop)]
+#[derive(Clone, Copy)]
 pub enum Reached {
     Shared,
     Page(Entry),

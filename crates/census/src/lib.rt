@@ -15,7 +15,7 @@ use entries::leaf::LeafWord;
 use rmp::table;
 
 // What a frame is to a guest: its place at an address, no place of it, or what a census refuses with.
-#[derive(Drop)]
+#[derive(Clone, Copy)]
 enum Holding {
     Holds(u64),
     Nothing,
@@ -51,7 +51,7 @@ fn holding_at(table: &[u64], memory: &[u64], guest: u64, frame: usize) -> Holdin
 }
 
 // How many places a guest has, or the first refusal that was met.
-#[derive(Drop)]
+#[derive(Clone, Copy)]
 enum Tally {
     Total(u64),
     Stopped(Refusal),

@@ -6,7 +6,7 @@ ghost use Rattle.checks.specs.Gate.{past};
 
 use crate::answer::Refusal;
 
-#[derive(Drop)]
+#[derive(Clone, Copy)]
 pub enum Gate {
     Open,
     Shut(Refusal),

@@ -13,7 +13,7 @@ pub const MERGEABLE: u64 = 2;
 pub const LEAF: u64 = 3;
 
 // `address` is the guest's address of the page or, where the page is fixed, the address of its leaf.
-#[derive(Drop)]
+#[derive(Clone, Copy)]
 pub struct Entry {
     pub asid: u64,
     pub kind: u64,
@@ -23,7 +23,7 @@ pub struct Entry {
 }
 
 // What two words of the table hold: an entry, or the reason of a bad one.
-#[derive(Drop)]
+#[derive(Clone, Copy)]
 pub enum Decoded {
     Good(Entry),
     Bad(u8),
@@ -54,7 +54,7 @@ impl Decoded {
 }
 
 // The two words of an entry.
-#[derive(Drop)]
+#[derive(Clone, Copy)]
 pub struct Words(pub u64, pub u64);
 
 // Addresses are below 2^52.

@@ -5,7 +5,7 @@ ghost use Rattle.entries.specs.Leaf.{leaf_word, present_at};
 use crate::entry;
 
 // What a word of a leaf page says of its guest: it has no place in the page, it has one at this guest address, or neither.
-#[derive(Drop)]
+#[derive(Clone, Copy)]
 pub enum LeafWord {
     Absent,
     Present(u64),

@@ -25,7 +25,7 @@ use parity::{Odd, find_odd};
 use rmp::table;
 
 // Who is left in a fixed page, with the page's entry: one guest, with its number and its address, or nobody.
-#[derive(Drop)]
+#[derive(Clone, Copy)]
 pub enum Left {
     Guest(Entry, u64, u64),
     Nobody(Entry),

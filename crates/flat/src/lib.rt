@@ -28,7 +28,7 @@ pub const UNFIXED: u64 = 8;
 
 // `refusal` is the number of a refusal, or 0. `reason` comes with 5 alone: what is bad in the entry. What an answer does not have is 0.
 #[repr(C)]
-#[derive(Drop)]
+#[derive(Clone, Copy)]
 pub struct Flat {
     pub refusal: u64,
     pub kind: u64,

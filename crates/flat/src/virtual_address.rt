@@ -8,7 +8,7 @@ use walk::guest::Mapped;
 
 // Where a virtual address leads. `refusal` is the number of the refusal, or 0; `reason` comes with 5 alone. With a refusal the rest is 0.
 #[repr(C)]
-#[derive(Drop)]
+#[derive(Clone, Copy)]
 pub struct FlatMapping {
     pub refusal: u64,
     pub reason: u64,

@@ -9,14 +9,14 @@ use numbers::number;
 use numbers::number::Number;
 
 // What a line says: a call, or nothing, where it is wrong.
-#[derive(Drop)]
+#[derive(Clone, Copy)]
 pub enum Said {
     Says(Call),
     Wrong,
 }
 
 // A line that was read: what it says, and the place in the text after it.
-#[derive(Drop)]
+#[derive(Clone, Copy)]
 pub struct Line {
     pub said: Said,
     pub next: usize,

@@ -5,7 +5,7 @@ ghost use Rattle.lines.specs.Read.{IsLineAt};
 
 use crate::line::{Line, line_at};
 
-#[derive(Drop)]
+#[derive(Clone, Copy)]
 pub struct Reader<'a> {
     pub text: &'a [u8],
     pub at: usize,

@@ -13,7 +13,7 @@ pub use fixing::{pfix, punfix};
 pub use merging::{pmerge, punmerge};
 
 // A call as a value, with its arguments in the order of the function that makes it.
-#[derive(Drop)]
+#[derive(Clone, Copy)]
 pub enum Call {
     // caller, hpa, gpa, asid, type
     Rmpupdate(u64, u64, u64, u64, u64),

@@ -19,11 +19,11 @@ pub const SET: u64 = 1;
 pub const EITHER: u64 = 2;
 
 // What is needed of one frame: its type, VALIDATED, FIXED.
-#[derive(Drop)]
+#[derive(Clone, Copy)]
 pub struct Need(pub u64, pub u64, pub u64);
 
 // What is needed of the first named frame, and of the second.
-#[derive(Drop)]
+#[derive(Clone, Copy)]
 pub struct Row(pub Need, pub Need);
 
 impl Need {

@@ -1,4 +1,6 @@
 // Which words of a run are odd, in one pass.
+#![tactic(auto)]
+
 ghost use Rattle.std.specs.Prelude.{◌≡◌, ◌+◌, ◌*◌, ◌%◌, ◌^◌, ◌<◌, ◌≤◌, length, ◌==◌};
 ghost use Rattle.words.specs.Choice.{pick};
 ghost use Rattle.parity.specs.Columns.{in_column};
@@ -8,7 +10,7 @@ ghost use Rattle.parity.specs.declared.Odd.TheVariants as variants;
 use std::num::wrapping_add_u32;
 
 // None, one, at its place, or several.
-#[derive(Drop)]
+#[derive(Clone, Copy)]
 pub enum Odd {
     None,
     One(usize),
@@ -16,7 +18,7 @@ pub enum Odd {
 }
 
 // What the words before `next` tell: how many are odd, and the place of the one that is, where one is.
-#[derive(Drop)]
+#[derive(Clone, Copy)]
 struct Seen {
     count: u64,
     place: usize,
@@ -98,7 +100,7 @@ fn seen_in_rows(run: &[u64]) -> Seen
 }
 
 // A number for each of the four columns.
-#[derive(Drop)]
+#[derive(Clone, Copy)]
 struct Columns {
     a: u32,
     b: u32,

@@ -10,7 +10,7 @@ use entries::entry::{
 };
 
 // Whether the fields of an entry obey the rules: its ASID, its flags, and flags and address together.
-#[derive(Drop)]
+#[derive(Clone, Copy)]
 struct Fits {
     asid: bool,
     flags: bool,

@@ -10,7 +10,7 @@ use crate::run::run;
 use numbers::buffer::least;
 
 // What a piece left: the bytes of an unfinished line, at the start of the text's bytes, and how many bytes were printed.
-#[derive(Drop)]
+#[derive(Clone, Copy)]
 pub struct Fed {
     pub kept: usize,
     pub printed: usize,

@@ -8,14 +8,14 @@ use checks::answer::Refusal;
 use entries::entry::LEAF;
 
 // What an entry points to, a table or at the end a page.
-#[derive(Drop)]
+#[derive(Clone, Copy)]
 pub struct Pointer {
     pub address: u64,
     pub kind: u64,
 }
 
 // What a walk, or one entry of it, leads to, or the refusal that is met.
-#[derive(Drop)]
+#[derive(Clone, Copy)]
 pub enum Pointed {
     To(Pointer),
     Stops(Refusal),

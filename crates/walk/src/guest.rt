@@ -9,7 +9,7 @@ use crate::host::host_half;
 use crate::read::{Seen, guest_look};
 use checks::answer::Refusal;
 
-#[derive(Drop)]
+#[derive(Clone, Copy)]
 pub struct Mapping {
     pub gpa: u64,
     pub hpa: u64,
@@ -18,7 +18,7 @@ pub struct Mapping {
 }
 
 // What the walk yields.
-#[derive(Drop)]
+#[derive(Clone, Copy)]
 pub enum Mapped {
     To(Mapping),
     Stops(Refusal),

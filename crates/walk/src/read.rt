@@ -14,7 +14,7 @@ use entries::entry::{SHARED, frame_of};
 use frames::frame;
 use rmp::table;
 
-#[derive(Drop)]
+#[derive(Clone, Copy)]
 pub enum Seen {
     Word(u64),
     Refused(Refusal),

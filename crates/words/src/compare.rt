@@ -50,7 +50,7 @@ fn differing_in_rows(a: &[u64], b: &[u64], turns: usize) -> u64
 }
 
 // For each of the four columns, how many words are the same.
-#[derive(Drop)]
+#[derive(Clone, Copy)]
 struct Same {
     a: u32,
     b: u32,
