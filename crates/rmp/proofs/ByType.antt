@@ -12,11 +12,13 @@ use Rattle.entries.proofs.Tells.{not_unowned}
 
 or_none : (b : Bool) → b or false ≡ b
 unfolding ◌or◌
-or_none b = elim b [ true ↦ refl | false ↦ refl ]
+or_none true = refl
+or_none false = refl
 
 and_all : (b : Bool) → b and true ≡ b
 unfolding ◌and◌
-and_all b = elim b [ true ↦ refl | false ↦ refl ]
+and_all true = refl
+and_all false = refl
 
 -- a type that is not owned is unowned: there are four
 unowned_else : (kind : ℕ) → kind < 4 → is_owned kind ≡ false → is_unowned kind ≡ true

@@ -1,1 +1,2 @@
 // No code: `specs/` has the rules of paper 01 as definitions, and `proofs/` the laws about them.
+#![tactic(auto)]

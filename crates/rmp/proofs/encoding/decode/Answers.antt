@@ -1,7 +1,6 @@
 -- `rmp::encoding::decode` meets its contract: the entry is good where all rules hold, and else bad with the first that is broken.
 use mathlib.Core.Path.{sym}
 use native.Mathlib.Omega.{arith}
-use borrow.Author.Rules.{rules}
 use Rattle.words.specs.Choice.{◌and◌}
 use Rattle.entries.specs.Entry.{entry, fields, decoded}
 use Rattle.entries.proofs.RuleLaws.{all_hold, one_broken}

@@ -1,6 +1,5 @@
 -- `rmp::encoding::encode` meets its contract, which is its code: a bit is at most 1, so that no sum in word 0 wraps.
 use native.Mathlib.Omega.{arith}
-use borrow.Author.Rules.{rules}
 use Rattle.entries.specs.Entry.{encoded}
 use Rattle.entries.proofs.EntryLaws.{is_bit}
 use Rattle.rmp.proofs.encoding.encode.Goals as goal

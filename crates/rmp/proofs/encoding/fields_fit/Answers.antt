@@ -1,6 +1,5 @@
 -- `rmp::encoding::fields_fit` meets its contract: each return has the tests as they are by type and FIXED.
 use mathlib.Core.Path.{sym, ◌∙◌}
-use borrow.Author.Rules.{rules}
 use Rattle.words.specs.Choice.{◌and◌}
 use Rattle.rmp.proofs.ByType.{unowned_asid, unowned_flags, unowned_rest, owned_asid, unfixed_flags, unfixed_rest}
 use Rattle.rmp.proofs.ByType.{fixed_flags, fixed_rest}
@@ -8,11 +7,11 @@ use Rattle.rmp.proofs.encoding.fields_fit.Goals as goal
 
 pub returns-then-fixed : goal.returns-then-fixed
 unfolding ◌and◌
-returns-then-fixed c = let guest = c.guest_holds.ensures in record { asid_value = guest ∙ sym (owned_asid _ (cc)); flags_value = sym (fixed_flags _ (cc) (cc)); rest_value = rw (c.frame_of.ensures, c.is_address.ensures) (sym (fixed_rest _ (cc) _ (cc))) }
+returns-then-fixed c = let guest = c.is_guest-asid.ensures in record { asid_value = guest ∙ sym (owned_asid _ (cc)); flags_value = sym (fixed_flags _ (cc) (cc)); rest_value = rw (c.frame_of.ensures, c.is_address.ensures) (sym (fixed_rest _ (cc) _ (cc))) }
 
 pub returns-then-owned : goal.returns-then-owned
 unfolding ◌and◌
-returns-then-owned c = let guest = c.guest_holds.ensures in record { asid_value = guest ∙ sym (owned_asid _ (cc)); flags_value = sym (unfixed_flags _ (cc) (cc)); rest_value = c.is_address-then-owned.ensures ∙ sym (unfixed_rest _ (cc) _ (cc)) }
+returns-then-owned c = let guest = c.is_guest-asid.ensures in record { asid_value = guest ∙ sym (owned_asid _ (cc)); flags_value = sym (unfixed_flags _ (cc) (cc)); rest_value = c.is_address-then-owned.ensures ∙ sym (unfixed_rest _ (cc) _ (cc)) }
 
 pub returns : goal.returns
 unfolding ◌and◌

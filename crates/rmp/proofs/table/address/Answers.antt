@@ -1,6 +1,5 @@
 -- `rmp::table::address` meets its contract: each return is a case of the definition, and word 1 of a frame that the table covers
 -- lies in the table.
-use borrow.Author.Rules.{rules}
 use borrow.Author.Tests.{lt-ltb, le-ltb}
 use Rattle.words.specs.Choice.{pick}
 use Rattle.rmp.specs.Table.{address_in, covered}

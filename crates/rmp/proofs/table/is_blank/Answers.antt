@@ -1,6 +1,5 @@
 -- `rmp::table::is_blank` meets its contract: two zero words decode to the zero entry.
 use mathlib.Core.Bool.{false≢true}
-use borrow.Author.Rules.{rules}
 use Rattle.words.specs.Choice.{◌and◌}
 use Rattle.rmp.specs.Table.{covered}
 use Rattle.rmp.proofs.TableLaws.{entry_blank}

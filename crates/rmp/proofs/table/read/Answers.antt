@@ -1,6 +1,5 @@
 -- `rmp::table::read` meets its contract: each return is a case of the definition, and both words of a frame that the table
 -- covers lie in the table.
-use borrow.Author.Rules.{rules}
 use borrow.Author.Tests.{lt-ltb, le-ltb}
 use Rattle.words.specs.Choice.{pick}
 use Rattle.rmp.specs.Table.{entry_in, covered}

@@ -1,6 +1,5 @@
 -- `rmp::table::read_shared` meets its contract: two zero words are the zero entry, and any others are read.
 use mathlib.Core.Path.{sym}
-use borrow.Author.Rules.{rules}
 use Rattle.rmp.proofs.table.read_shared.Goals as goal
 
 pub returns-then-blank : goal.returns-then-blank
