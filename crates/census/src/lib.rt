@@ -1,4 +1,6 @@
 // CENSUS: how many places a guest has.
+#![tactic(auto)]
+
 ghost use Rattle.std.specs.Prelude.{◌≡◌, ◌<◌};
 ghost use Rattle.rmp.specs.Table.{covered};
 ghost use Rattle.rules.specs.Census.{total, in_leaf, holding, counted, tally, census};

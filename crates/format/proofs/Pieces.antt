@@ -76,16 +76,16 @@ ran_after broken_off s text rest =
     (lt_or_le 0 (cut rest (length rest)))
 
 streamed :
-    (how : Ending) (s end : State) (begun : List ℕ) (pieces : List (List ℕ)) (bytes : List ℕ)
+    (how : Ending) (s : State) (begun : List ℕ) (end : State) (pieces : List (List ℕ)) (bytes : List ℕ)
     → whole_lines begun ≡ [] → Streamed how s begun pieces bytes end
     → (bytes ≡ printed s (ran_of how (begun ++ joined pieces))) × (end ≡ after s (ran_of how (begun ++ joined pieces)))
 unfolding ran_of joined
-streamed complete s end begun [] bytes unfed ended = (rw append-nil, rw append-nil)
-streamed broken_off s end begun [] bytes unfed stopped =
+streamed complete s begun end [] bytes unfed ended = (rw append-nil, rw append-nil)
+streamed broken_off s begun end [] bytes unfed stopped =
     rw (append-nil, unfed) (sym (nothing_printed s [] 0 (omega arith)), sym (nothing_after s [] 0 (omega arith)))
-streamed how s end begun (piece ∷ pieces) bytes unfed (fed more) =
+streamed how s begun end (piece ∷ pieces) bytes unfed (fed more) =
     let text = begun ++ piece in
-    let rest = streamed how _ end (unfinished text) pieces _ (unfinished_unfed text) more in
+    let rest = streamed how (after s (whole_lines text)) (unfinished text) end pieces _ (unfinished_unfed text) more in
     rw (← append_assoc begun piece (joined pieces)) (
       ap (λ b. printed s (whole_lines text) ++ b) rest.0 ∙ sym (ran_printed how s text (joined pieces)),
       rest.1 ∙ sym (ran_after how s text (joined pieces)),
@@ -93,7 +93,7 @@ streamed how s end begun (piece ∷ pieces) bytes unfed (fed more) =
 
 pub stream_prints : StreamPrints
 unfolding whole_lines cut
-stream_prints how s end pieces bytes all = streamed how s end [] pieces bytes refl all
+stream_prints how s end pieces bytes all = streamed how s [] end pieces bytes refl all
 
 pub stream_keeps_demand_3 : StreamDemand3
 stream_keeps_demand_3 how size memory end pieces bytes all =

@@ -1,1 +1,2 @@
 // The script's format. There is no code here: the definitions are in `specs/`.
+#![tactic(auto)]

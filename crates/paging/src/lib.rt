@@ -1,1 +1,2 @@
 // No code: `specs/` has page tables and their walk as definitions, and `proofs/` the laws about them.
+#![tactic(auto)]

@@ -12,9 +12,11 @@ use lib.ListN.{length}
 use borrow.Author.Tests.{eqb-true, eqb-false}
 use Rattle.words.specs.Choice.{pick, ◌or◌}
 use Rattle.words.proofs.ChoiceLaws.{pick_either, true_or_false, pick_true, pick_false}
+use Rattle.entries.specs.Entry as entries
 use Rattle.entries.specs.Entry.{is_owned}
 use Rattle.rules.specs.Answers as answers
 use Rattle.rules.specs.Answers.{Told, refused, done, closed, opened, already, unfixed, word, count, outcome}
+use Rattle.rules.specs.Calls as calls
 use Rattle.rules.specs.Calls.{Call, step}
 use Rattle.rules.specs.History.{made, history, finally, event_of, event}
 use Rattle.rules.specs.State.{State}
@@ -76,7 +78,7 @@ nothing_made (maps mapping) got left = none
 no_events : (s : State) (caller gpa hpa i : ℕ) (words : List ℕ) → Thins (history s (writes caller gpa hpa i words)) []
 unfolding history writes event event_of is_owned pick ◌or◌
 no_events s caller gpa hpa i [] = none
-no_events s caller gpa hpa i (value ∷ rest) = skip _ refl (no_events _ caller gpa hpa (suc i) rest)
+no_events s caller gpa hpa i (value ∷ rest) = skip _ refl (no_events (step s (calls.WRITE caller gpa hpa entries.SHARED entries.SHARED i value)).after caller gpa hpa (suc i) rest)
 
 -- an answer counts the same with and without the guest address that it names
 pub named_made :

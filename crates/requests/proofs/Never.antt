@@ -36,7 +36,7 @@ each_unbroken s [] (first ∷ past) rest a sound e = absurd (false≢true (cc))
 each_unbroken s (request ∷ requests) [] rest a sound e =
     let this : asked request s (respond s request) ≡ a = cc in rw (← this) (reply_unbroken s sound request)
 each_unbroken s (request ∷ requests) (first ∷ past) rest a sound e =
-    each_unbroken _ requests past rest a (afterwards_sound s (request ∷ []) sound) (cc)
+    each_unbroken (respond s request).after requests past rest a (afterwards_sound s (request ∷ []) sound) (cc)
 
 pub never_broken : NeverBroken
 never_broken length memory requests past rest a = each_unbroken _ requests past rest a (empty_sound length memory)

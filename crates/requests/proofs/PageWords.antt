@@ -115,7 +115,7 @@ module _ (caller gpa hpa : ℕ) where
         let this : made (WRITE caller gpa hpa SHARED SHARED i value) s (step s (WRITE caller gpa hpa SHARED SHARED i value)) ≡ m = cc in
         sym (ap (λ n. n.told) this) ∙ (same s i value p (omega arith)).0
     each_answered s i (value ∷ words) (first ∷ past) rest m p fits e =
-        each_answered _ (suc i) words past rest m (same s i value p (omega arith)).1 (omega arith) (cc)
+        each_answered (step s (WRITE caller gpa hpa SHARED SHARED i value)).after (suc i) words past rest m (same s i value p (omega arith)).1 (omega arith) (cc)
 
   written_by :
       (s : State) (words : List ℕ) → length words ≡ 512 → Settled (Sane s (frame_of hpa)) (shared s caller gpa hpa)

@@ -74,7 +74,7 @@ module _ {s : State} {hpa : ℕ} {page : Entry} (p : FixedIn s hpa page) where
         here = p.here;
         type = (entry_tells s _ p.here).fixed_kind p.fixed;
         fixed = p.fixed;
-        is_leaf = leaf;
+        leaf_kind = leaf;
       }
 
   -- a present word is a guest's, with an address

@@ -1,0 +1,8 @@
+-- `checks::arguments::access_arguments` meets its contract: the tests that it joins promise those of the definition.
+use Rattle.words.specs.Choice.{◌and◌}
+use Rattle.rules.specs.Arguments.{access_arguments}
+use Rattle.checks.proofs.arguments.access_arguments.Goals as goal
+
+pub returns : goal.returns
+unfolding access_arguments ◌and◌
+returns c = rw (c.is_address-2.ensures, c.is_address.ensures, c.is_party.ensures)
