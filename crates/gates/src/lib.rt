@@ -1,5 +1,7 @@
 // What each instruction needs of the frames that it names: the constant table of types and flags, and the checks that read it, with what
 // the rules check between them.
+#![tactic(auto)]
+
 pub mod table;
 
 ghost use Rattle.std.specs.Prelude.{◌≡◌, eqb};

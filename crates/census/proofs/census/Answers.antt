@@ -1,5 +1,4 @@
 -- `census::census` meets its contract: a shut gate is the rule's refusal, and past an open one the rule is what is done.
-use borrow.Author.Rules.{rules}
 use Rattle.rules.specs.Answers.{settle}
 use Rattle.rules.specs.Census.{census, reported}
 use Rattle.rules.specs.State.{N}

@@ -1,12 +1,9 @@
 -- `census::count_places` meets its contract: the loop keeps the tally of the frames passed. A tally that has met a
 -- refusal keeps it, and a frame adds one place at most, so that the count does not wrap.
-use mathlib.Core.Path.{◌≡◌, refl, sym}
+use mathlib.Core.Path.{◌≡◌}
 use Prim.Native.Nat.{◌≤◌, ◌-◌}
-use native.Mathlib.Omega.{arith}
-use borrow.Author.Rules.{rules}
 use Rattle.rules.specs.Census.{tally, total}
 use Rattle.rules.specs.State.{state}
-use Rattle.census.proofs.TallyLaws.{left_off, goes_on}
 use Rattle.census.proofs.count_places.Given as goal
 
 abbrev pub invariant-loop-frame : goal.invariant-loop-frame

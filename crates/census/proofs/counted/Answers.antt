@@ -1,5 +1,4 @@
 -- `census::counted` meets its contract: each return is a case of the definition.
-use borrow.Author.Rules.{rules}
 use Rattle.rules.specs.Census.{counted}
 use Rattle.census.proofs.counted.Goals as goal
 

@@ -1,5 +1,4 @@
 -- `census::holding_at` meets its contract: each return is a case of the definition.
-use borrow.Author.Rules.{rules}
 use Rattle.words.specs.Choice.{◌and◌}
 use Rattle.words.proofs.ChoiceLaws.{pick_true, pick_false}
 use Rattle.entries.specs.Entry.{reason_of}

@@ -1,5 +1,4 @@
 -- `census::in_leaf` meets its contract: each return is a case of the definition.
-use borrow.Author.Rules.{rules}
 use Rattle.rules.specs.Census.{in_leaf}
 use Rattle.census.proofs.in_leaf.Goals as goal
 
