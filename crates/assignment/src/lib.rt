@@ -1,4 +1,6 @@
 // RMPUPDATE and PVALIDATE: the host gives a frame to a guest, and the guest accepts it.
+#![tactic(auto)]
+
 pub mod update;
 pub mod validate;
 
