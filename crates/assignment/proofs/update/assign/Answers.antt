@@ -3,7 +3,6 @@ use mathlib.Core.Path.{◌≡◌, refl}
 use mathlib.Core.Bool.{Bool, true, false}
 use mathlib.Core.List.{List}
 use Prim.Native.Nat.{ℕ}
-use borrow.Author.Rules.{rules}
 use Rattle.words.specs.Choice.{pick}
 use Rattle.frames.specs.Frame.{zeros, put_frame}
 use Rattle.entries.specs.Entry.{entry}

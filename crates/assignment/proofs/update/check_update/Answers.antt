@@ -1,11 +1,7 @@
 -- `assignment::update::check_update` meets its contract: each return is a case of the rule. What the calls before it promise, and the
 -- arm taken at each, rewrite the rule to it.
-use mathlib.Core.Path.{◌≡◌}
-use borrow.Author.Rules.{rules}
-use Rattle.entries.specs.Entry.{frame_of}
-use Rattle.rules.specs.Answers.{grant, settle}
-use Rattle.rules.specs.Assignment.{rmpupdate, assigning, update_answer}
-use Rattle.rules.specs.State.{entry_at, state}
+use Rattle.rules.specs.Assignment.{rmpupdate}
+use Rattle.rules.specs.State.{entry_at}
 use Rattle.checks.proofs.NamedLaws.{one_checked}
 use Rattle.checks.specs.Gate.{past}
 use Rattle.checks.specs.Passed.{with_named}

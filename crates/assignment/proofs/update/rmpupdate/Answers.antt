@@ -1,6 +1,5 @@
 -- `assignment::update::rmpupdate` meets its contract: the rule is what its checks come to: a refusal, with nothing changed, or what is
 -- then done.
-use borrow.Author.Rules.{rules}
 use Rattle.rules.specs.Answers.{settle}
 use Rattle.checks.specs.Passed.{with_named}
 use Rattle.assignment.proofs.update.rmpupdate.Goals as goal

@@ -1,5 +1,4 @@
 -- `assignment::update::zero_unless` meets its contract: each return is a case of the definition.
-use borrow.Author.Rules.{rules}
 use Rattle.words.specs.Choice.{pick}
 use Rattle.assignment.proofs.update.zero_unless.Goals as goal
 

@@ -1,6 +1,5 @@
 -- `assignment::validate::pvalidate` meets its contract: the rule is what its checks come to: a refusal, with nothing changed, or what is
 -- then done.
-use borrow.Author.Rules.{rules}
 use Rattle.rules.specs.Answers.{settle}
 use Rattle.rules.specs.Assignment.{validating}
 use Rattle.rules.specs.State.{with_entry}

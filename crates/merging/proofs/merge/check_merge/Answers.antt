@@ -1,5 +1,4 @@
 -- `merging::merge::check_merge` meets its contract: what the entries of the named frames, and then the pages, come to, is the rule.
-use borrow.Author.Rules.{rules}
 use Rattle.rules.specs.Merging.{pmerge_by, pmerge}
 use Rattle.rules.specs.State.{entry_at}
 use Rattle.checks.proofs.NamedLaws.{two_checked}

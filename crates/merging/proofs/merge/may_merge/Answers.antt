@@ -1,5 +1,4 @@
 -- `merging::merge::may_merge` meets its contract: a gate that is shut decides, and past the open ones the last check does.
-use borrow.Author.Rules.{rules}
 use Rattle.rules.specs.State.{differing_at}
 use Rattle.checks.specs.Gate.{past}
 use Rattle.merging.proofs.merge.may_merge.Goals as goal

@@ -1,5 +1,4 @@
 -- `merging::merge::merge` meets its contract: the changes that it makes, one after the other, are those of the rule.
-use borrow.Author.Rules.{rules}
 use Rattle.rules.specs.Leaves.{leaf_frame}
 use Rattle.rules.specs.Merging.{merging}
 use Rattle.rules.specs.State.{with_entry, with_word, with_frame}

@@ -1,6 +1,5 @@
 -- `merging::merge::pmerge` meets its contract: the rule is what its checks come to: a refusal, with nothing changed, or what is
 -- then done.
-use borrow.Author.Rules.{rules}
 use Rattle.rules.specs.Answers.{settle}
 use Rattle.checks.specs.Passed.{with_both_named}
 use Rattle.merging.proofs.merge.pmerge.Goals as goal

@@ -1,6 +1,5 @@
 -- `merging::unmerge::check_unmerge` meets its contract: what the entries of the named frames, and then the page, come to, is the rule, with
 -- entry 2 made of entry 1 (`moves`).
-use borrow.Author.Rules.{rules}
 use Rattle.entries.specs.Entry.{frame_of}
 use Rattle.rules.specs.Merging.{punmerge}
 use Rattle.rules.specs.State.{state, entry_at}

@@ -1,5 +1,4 @@
 -- `merging::unmerge::guest_place` meets its contract: a gate that is shut decides, and past an open one the word consulted does.
-use borrow.Author.Rules.{rules}
 use Rattle.checks.specs.Gate.{past}
 use Rattle.checks.specs.Passed.{with_place}
 use Rattle.merging.proofs.unmerge.guest_place.Goals as goal

@@ -1,6 +1,5 @@
 -- `merging::unmerge::punmerge` meets its contract: the rule is what its checks come to: a refusal, with nothing changed, or what is
 -- then done.
-use borrow.Author.Rules.{rules}
 use Rattle.rules.specs.Answers.{settle}
 use Rattle.checks.specs.Passed.{with_place}
 use Rattle.merging.proofs.unmerge.punmerge.Goals as goal

@@ -1,5 +1,4 @@
 -- `merging::unmerge::unmerge` meets its contract: the changes that it makes, one after the other, are those of `moving`.
-use borrow.Author.Rules.{rules}
 use Rattle.rules.specs.Leaves.{leaf_frame}
 use Rattle.rules.specs.State.{frame_at, with_entry, with_word, with_frame}
 use Rattle.merging.specs.Moved.{moving}
