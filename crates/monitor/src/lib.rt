@@ -1,5 +1,7 @@
 // The monitor, whole: the nine calls on a lent table and a lent memory, and `step`, which makes any of them. Nothing is asked of a
 // caller: every call checks its arguments, the table and memory itself, and answers.
+#![tactic(auto)]
+
 ghost use Rattle.rules.specs.History.{made, Promised};
 ghost use Rattle.rules.specs.State.{state};
 ghost use Rattle.checks.specs.Answer.{gave};

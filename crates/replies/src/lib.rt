@@ -1,2 +1,4 @@
 // What is printed for a call and its answer.
+#![tactic(auto)]
+
 pub mod reply;
