@@ -1,4 +1,6 @@
 // An answer as a struct of numbers, which C can take.
+#![tactic(auto)]
+
 ghost use Rattle.std.specs.Prelude.{◌≡◌};
 ghost use Rattle.checks.specs.Answer.{told};
 ghost use Rattle.flat.specs.Flat.{numbers, flat};

@@ -1,6 +1,8 @@
 // Whole SHARED pages, for a disk driver: the part of memory that is a frame, 512 words written to a frame, and the check alone. The host
 // may ask for them, and each guest. Each function promises two things: the reply, and table and memory after it, are the rule's; and it is
 // a request of a run, so that demand 3 is kept by every run of them.
+#![tactic(auto)]
+
 ghost use Rattle.std.specs.Prelude.{◌≡◌};
 ghost use Rattle.rules.specs.Access.{reading, writing};
 ghost use Rattle.rules.specs.Answers.{Verdict, unless};

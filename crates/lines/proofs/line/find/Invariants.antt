@@ -1,12 +1,9 @@
 -- `lines::line::find` meets its contract: as long as no mark was met, what is left up to the mark is what there was, less the bytes that
 -- were passed.
-use mathlib.Core.Path.{◌≡◌, refl}
+use mathlib.Core.Path.{◌≡◌}
 use Prim.Native.Nat.{◌+◌, ◌-◌}
-use native.Mathlib.Omega.{arith}
 use lib.ListN.{length, drop}
-use borrow.Author.Rules.{rules}
 use Rattle.format.specs.Place.{up_to}
-use Rattle.format.proofs.UpTo.{up_to_mark_at, up_to_byte_at, up_to_end_at}
 use Rattle.lines.proofs.line.find.Given as goal
 
 abbrev pub invariant-loop-i : goal.invariant-loop-i

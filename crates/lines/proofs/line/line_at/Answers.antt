@@ -2,7 +2,6 @@
 use mathlib.Core.Path.{sym}
 use mathlib.Core.List.{[]}
 use native.Mathlib.Omega.{arith}
-use borrow.Author.Rules.{rules}
 use Rattle.format.specs.Place.{line_at}
 use Rattle.format.specs.Text.{LF}
 use Rattle.format.proofs.UpTo.{up_to_within, up_to_part}
@@ -14,6 +13,11 @@ pub returns-then-at-text : goal.returns-then-at-text
 returns-then-at-text c = let x = c.args in
     let none = no_line_past x.text.now x.at c.if-at-text.true in
     (rw (none, said_few [] (omega arith)), sym (stays_past x.text.now x.at c.if-at-text.true))
+
+pub slice_bounds-parse-end : goal.slice_bounds-parse-end
+slice_bounds-parse-end c =
+    let within = up_to_within LF c.args.text.now c.args.at (omega arith) in
+    omega arith
 
 pub returns-then-end-text : goal.returns-then-end-text
 unfolding line_at

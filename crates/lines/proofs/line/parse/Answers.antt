@@ -5,7 +5,6 @@ use Prim.Native.Nat.{◌-◌, ◌≤◌}
 use native.Mathlib.Omega.{arith}
 use lib.ListN.{length, take, drop, length-drop}
 use lib.Seq.{take_all}
-use borrow.Author.Rules.{rules}
 use Rattle.format.proofs.LineLaws.{said_long}
 use Rattle.format.proofs.SaidLaws.{said_few, said_no_space, said_asks}
 use Rattle.lines.proofs.line.parse.Goals as goal

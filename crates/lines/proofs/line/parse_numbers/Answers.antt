@@ -1,14 +1,13 @@
 -- `lines::line::parse_numbers` meets its contract: the numbers taken so far, and the fields that are left, say what all the fields do.
 use mathlib.Core.Path.{◌≡◌, refl, sym, ◌∙◌}
 use Prim.Native.Char.{code}
-use Prim.Native.Nat.{◌-◌, ◌≤◌, ◌<◌}
+use Prim.Native.Nat.{◌≤◌, ◌<◌}
 use native.Mathlib.Omega.{arith}
 use lib.ListN.{length, take, drop, set, length-drop, length-set}
 use lib.Seq.{length-take-le}
-use borrow.Author.Rules.{rules}
-use Rattle.format.specs.Line.{asks, fields}
+use Rattle.format.specs.Line.{fields}
 use Rattle.format.specs.Place.{up_to}
-use Rattle.format.proofs.AskLaws.{asks_on, asks_begins, asks_next, asks_last, asks_wrong, asks_many}
+use Rattle.format.proofs.AskLaws.{asks_begins, asks_next, asks_last, asks_wrong, asks_many}
 use Rattle.format.proofs.UpTo.{up_to_within, up_to_part}
 use Rattle.numbers.specs.Numeral.{number_of}
 use Rattle.numbers.specs.declared.number.Number.TheVariants.{Value, NoNumber}
@@ -18,6 +17,11 @@ use Rattle.lines.proofs.line.parse_numbers.Goals as goal
 
 pub loop-count-init : goal.loop-count-init
 loop-count-init c = (refl, omega arith, omega arith, asks_begins c.args.letter (fields c.args.rest.now))
+
+pub slice_bounds-parse-end : goal.slice_bounds-parse-end
+slice_bounds-parse-end c =
+    let within = up_to_within (code " ") c.args.rest.now c.loop-count.at (omega arith) in
+    omega arith
 
 pub returns-in_default : goal.returns-in_default
 returns-in_default c = let l = c.loop-count in
