@@ -2,6 +2,8 @@
 // struct of numbers. `include/skorbilek.h` declares them. A slice is a pointer and then a length, in words, on the other side.
 // Each promises two things: what it returns and leaves is the rule's outcome, flattened; and it is a request of a run, so that demand 3 is
 // kept by every run of them.
+#![tactic(auto)]
+
 ghost use Rattle.std.specs.Prelude.{◌≡◌};
 ghost use Rattle.rules.specs.Access.{read, write};
 ghost use Rattle.rules.specs.Assignment.{rmpupdate, pvalidate};

@@ -4,6 +4,8 @@
 //
 // They are built apart from the other exported functions (`ffi`), and put into one archive with them: in one build PVALIDATE, READ and
 // WRITE would have two callers each, and would be compiled into neither.
+#![tactic(auto)]
+
 ghost use Rattle.std.specs.Prelude.{◌≡◌, true};
 ghost use Rattle.rules.specs.State.{state};
 ghost use Rattle.paging.specs.Walk.{virtual, translated};

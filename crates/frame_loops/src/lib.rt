@@ -1,4 +1,6 @@
 // The loops over frames, exported for the benchmark alone: `bench` holds them against Rust's `fill`, `copy_within` and `==`.
+#![tactic(auto)]
+
 ghost use Rattle.std.specs.Prelude.{◌≡◌};
 ghost use Rattle.frames.specs.Frame.{frame_in, zeros, put_frame, differing_in};
 

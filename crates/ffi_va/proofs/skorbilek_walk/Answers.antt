@@ -1,0 +1,13 @@
+-- `ffi_va::skorbilek_walk` meets its contract: the walk's promise, carried through the flattening, makes a request of a run.
+use Rattle.rules.specs.State.{state}
+use Rattle.requests.specs.Requests.{respond}
+use Rattle.flat.proofs.Named.{carried_mapping}
+use Rattle.ffi_va.proofs.skorbilek_walk.Goals as goal
+
+pub returns-clause-value : goal.returns-clause-value
+unfolding respond
+returns-clause-value c = (carried_mapping c.translate.result (state c.args.table.now c.args.memory.now) c.translate.ensures c.flatten_mapping.ensures).0
+
+pub returns-clause-ruled : goal.returns-clause-ruled
+unfolding respond
+returns-clause-ruled c = (carried_mapping c.translate.result (state c.args.table.now c.args.memory.now) c.translate.ensures c.flatten_mapping.ensures).1
