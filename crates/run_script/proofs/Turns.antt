@@ -11,7 +11,7 @@ use lib.ListN.{length, take, drop, length-take, length-drop}
 use lib.Seq.{take-add}
 use Rattle.rules.specs.State.{State}
 use Rattle.format.specs.Piece.{cut, whole_lines, unfinished, complete, broken_off, ended, stopped, fed}
-use Rattle.format.specs.Text.{printed, after, room}
+use Rattle.format.specs.Text.{printed, room}
 use Rattle.numbers.specs.Buffer.{buffer, fitting, appended}
 use Rattle.script.proofs.AllPrinted.{all_appended, all_printed}
 use Rattle.run_script.specs.declared.Got.{Got}

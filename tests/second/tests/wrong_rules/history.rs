@@ -35,16 +35,16 @@ fn sound(answer: Answer) -> Result<(), String> {
 /// How the messages end, and the names that docs/PROMISES.md has for what is then false.
 const NAMES: [(&str, &str); 11] = [
     (" openings", "counted"),
-    (" was never opened", "opened-before"),
+    (" was never opened", "opened_before"),
     (" was last written", "kept"),
     (" was found at the opening", "kept"),
-    (" is bad: SpareBits", "never-broken"),
-    (" is bad: Asid", "never-broken"),
-    (" is bad: Flags", "never-broken"),
-    (" is bad: Address", "never-broken"),
-    (" is no leaf", "never-broken"),
-    (" is misshapen", "never-broken"),
-    (" is met", "never-broken"),
+    (" is bad: SpareBits", "never_broken"),
+    (" is bad: Asid", "never_broken"),
+    (" is bad: Flags", "never_broken"),
+    (" is bad: Address", "never_broken"),
+    (" is no leaf", "never_broken"),
+    (" is misshapen", "never_broken"),
+    (" is met", "never_broken"),
 ];
 
 fn name(said: &str) -> &'static str {
