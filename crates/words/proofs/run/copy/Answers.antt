@@ -8,11 +8,9 @@ use borrow.Author.Rules.{rules}
 use Rattle.words.specs.Run.{copied}
 use Rattle.words.proofs.RunLaws.{paste_next}
 use Rattle.words.proofs.run.copy.Goals as goal
-use Rattle.words.proofs.run.copy.Goals.{else-target-source, then-target-source}
 
 pub loop-i-init : goal.loop-i-init
-loop-i-init c = let start = paste-zero c.args.target.now 0 c.args.source.now in
-    (search rules, elim c.if-target-source.branch [ then-target-source w ↦ omega arith | else-target-source w ↦ omega arith ], search rules, start)
+loop-i-init c = (search rules, omega arith, search rules, paste-zero c.args.target.now 0 c.args.source.now)
 
 pub loop-i-preserved : goal.loop-i-preserved
 loop-i-preserved c = let l = c.loop-i in
