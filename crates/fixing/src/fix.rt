@@ -39,7 +39,7 @@ pub fn pfix(table: &mut [u64], memory: &mut [u64], caller: u64, hpa: u64, leaf: 
 
 fn check_fix(table: &[u64], memory: &[u64], caller: u64, hpa: u64, leaf: u64) -> BothNamed
     ensures { pfix (state table.now memory.now) caller hpa leaf
-        ≡ settle (state table.now memory.now) (with_both_named result λ old leaf-entry.
+        ≡ settle (state table.now memory.now) (with_both_named result λ old leaf_entry.
         grant done (fixing (state table.now memory.now) (frame_of hpa) old leaf)) }
 {
     let begun = begin_two_frames(table, memory, caller, hpa, leaf);

@@ -3,9 +3,9 @@
 //!     cargo run --profile compare -p compare -- [--seed S] [--calls N] [--program PATH]
 //!
 //! The profile `compare` is `release` with overflow checks, so that an overflow in the second program is found and not hidden. What is
-//! compared: scripts, through `crates/run_script/out/run_script` (or PATH) and the second script program; calls through the library, those
-//! for whole shared pages and those by virtual address among them, on states of every kind; and histories, whose answers are held against
-//! the ledger of demand 3 too. It prints how often each call gave each refusal, and 5 for each reason, and a last line like `1700000 calls,
+//! compared: scripts, through `target/bin/run_script` (or PATH) and the second script program; calls through the library, those for whole
+//! shared pages and those by virtual address among them, on states of every kind; and histories, whose answers are held against the
+//! ledger of demand 3 too. It prints how often each call gave each refusal, and 5 for each reason, and a last line like `1700000 calls,
 //! seed 20, 0 differences, 165 cells and 112 of reasons reached`. The exit status is 0 if there was no difference and every refusal and
 //! reason that can be given was met, 1 if not, and 2 if the run was asked for wrongly. Where there is a difference it prints the smallest
 //! script or state that it finds for it. A run of a few thousand calls is too short to meet every refusal.

@@ -9,7 +9,7 @@ use crate::monitor::attempt;
 
 /// Where the built program is.
 pub fn built() -> PathBuf {
-    Path::new(env!("CARGO_MANIFEST_DIR")).join("../../crates/run_script/out/run_script")
+    Path::new(env!("CARGO_MANIFEST_DIR")).join("../../target/bin/run_script")
 }
 
 /// What the program at this path prints. The text is fed by a thread, so that neither pipe can block the other. An exit status that is
