@@ -3,7 +3,7 @@
 
 usage: python3 tools/port/respell.py [FOLDER]
 
-Run it once, right after /opt/rattle/port/port.py, at the top of a checkout (FOLDER, or here). It goes by tokens: respelled.tsv beside it has
+Run it once, right after the kit's port.py, at the top of a checkout (FOLDER, or here). It goes by tokens: respelled.tsv beside it has
 the old name and the new one, and a name followed by @CRATE is turned in that crate alone. Strings are left, and so are must-fail edits.
 """
 
