@@ -1,5 +1,5 @@
 #!/usr/bin/env python3
-"""Brings this repository's own names to the spelling that Rattle has since kit 13: words in snake case.
+"""Brings this repository's own names to the spelling of today's Rattle: words in snake case.
 
 usage: python3 tools/port/respell.py [FOLDER]
 
