@@ -9,7 +9,7 @@ from pathlib import Path
 
 ROOT = Path(__file__).resolve().parents[2]
 SOURCES = sorted(ROOT.glob("crates/*/src/**/*.rt"))
-FUNCTION = re.compile(r"^( *)(?:#\[[^\n]*\]\n *)*(?:pub )?(?:extern \"C\" )?fn (\w+)", re.M)
+FUNCTION = re.compile(r"^( *)(?:pub )?(?:extern \"C\" )?fn (\w+)", re.M)
 
 
 def name_of(path):
@@ -29,7 +29,7 @@ def functions():
             rest = text[found.start():]
             end = re.search(rf"^{indent}\}}$", rest, re.M)
             whole = rest[: end.end()] if end else rest
-            opening = whole.index("(")
+            opening = re.search(r"fn \w+(<[^(]*>)?\(", whole).end() - 1
             depth, at = 0, opening
             while True:
                 depth += {"(": 1, ")": -1}.get(whole[at], 0)
@@ -65,7 +65,7 @@ def enums():
 
 
 def flags():
-    """Structs with a bool beside other fields."""
+    """Structs with a `bool` beside other fields."""
     for path in SOURCES:
         text = without_comments(path.read_text())
         for found in re.finditer(r"struct (\w+)[^{(;]*\{(.*?)\n\}", text, re.S):

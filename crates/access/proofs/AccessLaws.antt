@@ -1,4 +1,4 @@
--- The rule of an access in the three parts in which the code makes its checks: what it begins with, the frame that it reaches, and what is
+-- The rule of an access in three parts: what it begins with, the frame that it reaches, and what is
 -- allowed there. The rule, with its definitions opened, is the three put together.
 -- Assumes nothing.
 use mathlib.Core.Path.{◌≡◌, refl}
@@ -6,19 +6,18 @@ use mathlib.Core.Bool.{Bool}
 use mathlib.Core.List.{List}
 use Prim.Native.Nat.{ℕ}
 use lib.Dec.{eqb, ltb}
-use Rattle.entries.specs.Entry.{frame_of}
+use Rattle.std.specs.Prelude.{Option, Result}
+use Rattle.entries.specs.Entry.{Decoded, frame_of}
 use Rattle.entries.specs.declared.entry.Entry.{Entry}
-use Rattle.entries.specs.declared.entry.Decoded.{Decoded}
 use Rattle.rmp.specs.Table.{covered, entry_in}
 use Rattle.rules.specs.Access.{covered_access, access}
 use Rattle.rules.specs.Answers.{Verdict, unless, begins}
 use Rattle.rules.specs.Arguments.{access_arguments, may_access}
 use Rattle.rules.specs.Refusals.{TYPE}
 use Rattle.rules.specs.State.{state, N, M, covers, entry_at}
-use Rattle.checks.specs.Gate.{past}
-use Rattle.checks.specs.declared.gate.Gate.{Gate}
+use Rattle.checks.specs.Passed.{past}
+use Rattle.checks.specs.declared.refusal.Refusal.{Refusal}
 use Rattle.access.specs.Reached.{reached, covered_reached, frame_reached, page_access}
-use Rattle.access.specs.declared.check.Reached.{Reached}
 
 module _ (table memory : List ℕ) (writes : Bool) (caller gpa hpa gtype ntype index : ℕ) where
   pub access_parts :
@@ -34,7 +33,7 @@ module _ (table memory : List ℕ) (writes : Bool) (caller gpa hpa gtype ntype i
 
   -- what the three parts promise, together, with the entry of the frame decoded between the first and the second
   pub access_checked :
-      (begun allowed : Gate) (frame : Reached) (at : ℕ) (here : Decoded) (inside : Bool)
+      (begun allowed : Result Unit Refusal) (frame : Result (Option Entry) Refusal) (at : ℕ) (here : Decoded) (inside : Bool)
       → ((v : Verdict) → past begun v
       ≡ begins (state table memory) (access_arguments caller gpa hpa gtype ntype index) (may_access caller gtype ntype)
       (ltb (frame_of hpa) (M (state table memory))) (unless (eqb gtype ntype) TYPE v))

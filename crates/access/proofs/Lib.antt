@@ -1,2 +1,2 @@
--- Laws that the proofs of this crate cite.
+-- Laws of the rule of an access.
 pub mod AccessLaws

@@ -1,23 +1,21 @@
 -- The checks of an access in three parts: those that it begins with, those that tell which frame it reaches, and those of a guest's page.
--- These are the parts after the first, as the rule `access` has them.
-use Rattle.std.specs.Prelude.{Bool, ℕ, eqb}
+-- These are the parts after the first, as the rule `access` has them. Only the laws of proofs/AccessLaws.antt speak of them.
+use Rattle.std.specs.Prelude.{Bool, ℕ, eqb, Option, None, Some, Result, Ok, Err}
 use Rattle.words.specs.Choice.{pick}
-use Rattle.entries.specs.Entry.{SHARED}
+use Rattle.entries.specs.Entry.{Decoded, SHARED}
 use Rattle.entries.specs.declared.entry.Entry.{Entry}
-use Rattle.entries.specs.declared.entry.Decoded.{Decoded}
 use Rattle.rules.specs.Access.{fixed_access, unfixed_access}
 use Rattle.rules.specs.Answers.{Verdict, refuse, unless, entered}
 use Rattle.rules.specs.Refusals.{TYPE}
 use Rattle.rules.specs.State.{State}
 use Rattle.checks.specs.Answer.{means}
-use Rattle.access.specs.declared.check.Reached.{Reached}
-use Rattle.access.specs.declared.check.Reached.TheVariants.{Shared, Page, Refused}
+use Rattle.checks.specs.declared.refusal.Refusal.{Refusal}
 
 -- the verdict, where what follows of a SHARED frame and of a page is as given
-unfoldable pub reached : Reached → Verdict → (Entry → Verdict) → Verdict
-reached Shared shared page = shared
-reached (Page e) shared page = page e
-reached (Refused r) shared page = refuse (means r)
+unfoldable pub reached : Result (Option Entry) Refusal → Verdict → (Entry → Verdict) → Verdict
+reached (Ok None) shared page = shared
+reached (Ok (Some e)) shared page = page e
+reached (Err r) shared page = refuse (means r)
 
 -- "Below N: 5, 6; SHARED is done with no more checks." The frame's entry is given
 unfoldable pub covered_reached : Decoded → ℕ → Verdict → (Entry → Verdict) → Verdict

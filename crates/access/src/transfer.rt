@@ -4,15 +4,15 @@ ghost use Rattle.rules.specs.Access.{read, write};
 ghost use Rattle.rules.specs.State.{state};
 ghost use Rattle.checks.specs.Answer.{gave};
 
-use crate::check;
+use crate::check::{READING, WRITING, checked};
 use checks::answer::Answer;
-use checks::begin::covers;
-use checks::gate::Gate;
+use checks::refusal::Refusal;
+use checks::state::State;
 use entries::entry::frame_of;
 use frames::frame;
-use rmp::table;
 
 // `caller` reads a word of its page at `gpa`, in the frame at `hpa`.
+#[tactic(auto, unfolding(rules::specs::Access::read, rules::specs::Answers::settle, checks::specs::Passed::past))]
 pub fn read(
     table: &[u64],
     memory: &[u64],
@@ -22,25 +22,17 @@ pub fn read(
     gtype: u64,
     ntype: u64,
     index: u64,
-) -> Answer
+) -> Result<Answer, Refusal>
     ensures { gave result table.now memory.now
         ≡ read (state table.now memory.now) caller gpa hpa gtype ntype index }
 {
-    let begun = check::begun(table, memory, caller, gpa, hpa, gtype, ntype, index);
-    if let Gate::Shut(refusal) = begun {
-        return Answer::Refused(refusal);
-    }
-    let here = table::read(table, frame_of(hpa));
-    let reached = check::reach(covers(table, hpa), here, check::READING, gtype);
-    let allowed = check::allowed(table, memory, check::READING, caller, gpa, reached);
-    if let Gate::Shut(refusal) = allowed {
-        return Answer::Refused(refusal);
-    }
-    let word = frame::word(memory, frame_of(hpa), index as usize);
-    Answer::Word(word)
+    let state = State::new(table, memory);
+    checked(&state, READING, caller, gpa, hpa, gtype, ntype, index)?;
+    Ok(Answer::Word(state.word(frame_of(hpa), index as usize)))
 }
 
 // `caller` writes a word of its page at `gpa`, in the frame at `hpa`.
+#[tactic(auto, unfolding(rules::specs::Access::write, rules::specs::Answers::settle, rules::specs::State::with_word, checks::specs::Passed::past))]
 pub fn write(
     table: &[u64],
     memory: &mut [u64],
@@ -51,20 +43,12 @@ pub fn write(
     ntype: u64,
     index: u64,
     value: u64,
-) -> Answer
+) -> Result<Answer, Refusal>
     ensures { gave result table.now memory.new
         ≡ write (state table.now memory.old) caller gpa hpa gtype ntype index value }
 {
-    let begun = check::begun(table, memory, caller, gpa, hpa, gtype, ntype, index);
-    if let Gate::Shut(refusal) = begun {
-        return Answer::Refused(refusal);
-    }
-    let here = table::read(table, frame_of(hpa));
-    let reached = check::reach(covers(table, hpa), here, check::WRITING, gtype);
-    let allowed = check::allowed(table, memory, check::WRITING, caller, gpa, reached);
-    if let Gate::Shut(refusal) = allowed {
-        return Answer::Refused(refusal);
-    }
+    let state = State::new(table, memory);
+    checked(&state, WRITING, caller, gpa, hpa, gtype, ntype, index)?;
     frame::put_word(memory, frame_of(hpa), index as usize, value);
-    Answer::Done
+    Ok(Answer::Done)
 }

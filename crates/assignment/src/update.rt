@@ -1,19 +1,17 @@
 // RMPUPDATE: the host gives a frame to a guest, or takes it back.
-ghost use Rattle.std.specs.Prelude.{◌≡◌};
-ghost use Rattle.words.specs.Choice.{pick};
-ghost use Rattle.frames.specs.Frame.{zeros, put_frame};
+ghost use Rattle.std.specs.Prelude.{◌≡◌, Ok};
 ghost use Rattle.entries.specs.Entry.{frame_of};
 ghost use Rattle.rules.specs.Answers.{grant, settle};
 ghost use Rattle.rules.specs.Assignment.{assigning, update_answer, rmpupdate};
 ghost use Rattle.rules.specs.State.{state};
 ghost use Rattle.checks.specs.Answer.{told, gave};
-ghost use Rattle.checks.specs.Passed.{with_named};
+ghost use Rattle.checks.specs.Passed.{passed};
 
 use checks::answer::Answer;
 use checks::begin::begin_update;
-use checks::gate::Gate;
 use checks::named;
-use checks::passed::Named;
+use checks::refusal::Refusal;
+use checks::state::State;
 use entries::entry::{Entry, frame_of};
 use frames::frame;
 use gates::update_needs_met;
@@ -28,44 +26,35 @@ pub fn rmpupdate(
     gpa: u64,
     asid: u64,
     kind: u64,
-) -> Answer
+) -> Result<Answer, Refusal>
     ensures { gave result table.new memory.new
         ≡ rmpupdate (state table.old memory.old) caller hpa gpa asid kind }
 {
-    match check_update(table, memory, caller, hpa, gpa, asid, kind) {
-        Named::Refused(refusal) => Answer::Refused(refusal),
-        Named::Good(old) => {
-            assign(table, memory, frame_of(hpa), old, gpa, asid, kind);
-            update_answer(old)
-        }
-    }
+    let old = check_update(&State::new(table, memory), caller, hpa, gpa, asid, kind)?;
+    assign(table, memory, frame_of(hpa), old, gpa, asid, kind);
+    Ok(update_answer(old))
 }
 
 fn check_update(
-    table: &[u64],
-    memory: &[u64],
+    state: &State<'_>,
     caller: u64,
     hpa: u64,
     gpa: u64,
     asid: u64,
     kind: u64,
-) -> Named
-    ensures { rmpupdate (state table.now memory.now) caller hpa gpa asid kind
-        ≡ settle (state table.now memory.now) (with_named result λ old.
-        grant (update_answer old) (assigning (state table.now memory.now) (frame_of hpa) old gpa asid kind)) }
+) -> Result<Entry, Refusal>
+    ensures { rmpupdate state.now caller hpa gpa asid kind
+        ≡ settle state.now (passed result λ old.
+        grant (update_answer old) (assigning state.now (frame_of hpa) old gpa asid kind)) }
 {
-    let begun = begin_update(table, memory, caller, hpa, gpa, asid, kind);
-    let named = named::first(table, begun, hpa);
-    let Named::Good(old) = named else {
-        return named;
-    };
-    let met = update_needs_met(old);
-    if let Gate::Shut(refusal) = met {
-        return Named::Refused(refusal);
-    }
-    named
+    begin_update(state, caller, hpa, gpa, asid, kind)?;
+    let old = named::entry(state, hpa)?;
+    update_needs_met(old)?;
+    Ok(old)
 }
 
+// The frame gets a new entry, and is zeroed unless its owner stays.
+// Table and memory stay two slices here and in the other changes: a struct of two `&mut` would be made for one call of each.
 fn assign(
     table: &mut [u64],
     memory: &mut [u64],
@@ -78,7 +67,10 @@ fn assign(
     ensures { state table.new memory.new
         ≡ assigning (state table.old memory.old) frame old gpa asid kind }
 {
-    zero_unless(memory, frame, asid == old.asid);
+    let owner_changes = asid != old.asid;
+    if owner_changes {
+        frame::zero(memory, frame);
+    }
     let new = Entry {
         asid,
         kind,
@@ -89,24 +81,16 @@ fn assign(
     table::put(table, frame, new);
 }
 
-// The frame is zeroed, unless its owner stays.
-fn zero_unless(memory: &mut [u64], frame: usize, stays: bool)
-    ensures { memory.new ≡ pick stays memory.old (put_frame memory.old frame zeros) }
-{
-    if stays {
-        return;
-    }
-    frame::zero(memory, frame);
-}
-
+#[tactic(auto, unfolding(rules::specs::Assignment::update_answer, words::specs::Choice::pick))]
 fn update_answer(old: Entry) -> Answer
-    ensures { told result ≡ update_answer old }
+    ensures { told (Ok result) ≡ update_answer old }
 {
     if old.validated {
-        return Answer::Closed {
+        Answer::Closed {
             asid: old.asid,
             gpa: old.address,
-        };
+        }
+    } else {
+        Answer::None
     }
-    Answer::None
 }

@@ -1,27 +1,15 @@
 -- The tally of a guest, frame by frame: what one frame more makes of it, and that a tally which has met a refusal keeps it, however
 -- many frames follow.
 -- Assumes nothing.
-use mathlib.Core.Path.{◌≡◌}
-use Prim.Native.Nat.{ℕ, zero, suc, ◌+◌, ◌<◌, ◌≤◌}
+use Rattle.std.proofs.Common.{◌≡◌, ℕ, zero, suc, ◌+◌, ◌<◌, ◌≤◌, true, false, add-one, arith}
+use Rattle.std.specs.Prelude.{Option, Some, None, Ok, Err, is_some}
 use native.Mathlib.Decide.{ℕ_discrete}
-use native.Mathlib.Numerals.{add-one}
-use native.Mathlib.Omega.{arith}
 use Rattle.rules.specs.Census.{total, stopped, holding, counted, tally}
 use Rattle.rules.specs.Refusals as rules
 use Rattle.rules.specs.State.{State}
-use Rattle.rules.proofs.CensusLaws.{at_most_one}
 use Rattle.checks.specs.Answer.{means}
-use Rattle.checks.specs.declared.answer.Refusal.{Refusal}
-use Rattle.census.specs.Census.{held, tallied}
-use Rattle.census.specs.declared.Holding.{Holding}
-use Rattle.census.specs.declared.Tally.{Tally}
-use Rattle.census.specs.declared.Tally.TheVariants.{Total, Stopped}
-
-tally_next :
-    (s : State) (guest frame places : ℕ) → tally s guest frame ≡ total places
-    → tally s guest (frame + 1) ≡ counted (total places) (holding s guest frame)
-unfolding tally
-tally_next s guest frame places h = rw (add-one, h)
+use Rattle.checks.specs.declared.refusal.Refusal.{Refusal}
+use Rattle.census.specs.Census.{held}
 
 tally_stays :
     (s : State) (guest frame : ℕ) (met : rules.Refusal) (n : ℕ) → tally s guest frame ≡ stopped met → frame ≤ n
@@ -34,17 +22,25 @@ tally_stays s guest frame met (suc n) h below =
       | no e ↦ rw (tally_stays s guest frame met n h (omega (arith, e)))
     ]
 
--- one turn of the loop: `next` is what the frame makes of the tally so far
-module _
-    (s : State) (guest frame places : ℕ) (here : Holding) (next : Tally) (so_far : tally s guest frame ≡ total places)
-    (found : held here ≡ holding s guest frame) (added : tallied next ≡ counted (total places) (held here)) where
-  one_more : tally s guest (frame + 1) ≡ tallied next
-  one_more = cc (tally_next s guest frame places so_far)
+-- one turn of the loop, over the tally of the frames before this one
+module _ (s : State) (guest frame places : ℕ) (so_far : tally s guest frame ≡ total places) where
+  tally_next : tally s guest (frame + 1) ≡ counted (total places) (holding s guest frame)
+  unfolding tally
+  tally_next = rw (add-one, so_far)
 
-  pub left_off : (r : Refusal) (n : ℕ) → next ≡ Stopped r → frame < n → tallied next ≡ tally s guest n
-  left_off r n e below =
-      let met : tally s guest (frame + 1) ≡ stopped (means r) = rw e at one_more in
-      rw (e, tally_stays s guest (frame + 1) (means r) n met (omega arith))
+  pub one_more :
+      (here : Option ℕ) → held (Ok here) ≡ holding s guest frame → is_some here ≡ true → tally s guest (frame + 1) ≡ total (places + 1)
+  unfolding counted
+  one_more (Some gpa) found _ = rw (tally_next, ← found)
+  one_more None found has = cc
 
-  pub goes_on : (more : ℕ) → next ≡ Total more → (more ≤ places + 1) × (tally s guest (frame + 1) ≡ total more)
-  goes_on more e = (at_most_one places more (held here) (cc), rw e at one_more)
+  pub no_more :
+      (here : Option ℕ) → held (Ok here) ≡ holding s guest frame → is_some here ≡ false → tally s guest (frame + 1) ≡ total places
+  unfolding counted
+  no_more None found _ = rw (tally_next, ← found)
+  no_more (Some gpa) found lacks = cc
+
+  pub stops_here :
+      (r : Refusal) (n : ℕ) → held (Err r) ≡ holding s guest frame → frame < n → tally s guest n ≡ stopped (means r)
+  unfolding counted
+  stops_here r n found below = tally_stays s guest (frame + 1) (means r) n (rw (tally_next, ← found)) (omega arith)

@@ -1,17 +1,17 @@
 -- What the code's holdings and tallies are in the rules.
+use Rattle.std.specs.Prelude.{ℕ, Option, Some, None, Result, Ok, Err}
 use Rattle.rules.specs.Census.{holds, nothing, fails, total, stopped}
 use Rattle.rules.specs.Census as rules
 use Rattle.checks.specs.Answer.{means}
-use Rattle.census.specs.declared.Holding.{Holding}
-use Rattle.census.specs.declared.Holding.TheVariants.{Holds, Nothing, Fails}
-use Rattle.census.specs.declared.Tally.{Tally}
-use Rattle.census.specs.declared.Tally.TheVariants.{Total, Stopped}
+use Rattle.checks.specs.declared.refusal.Refusal.{Refusal}
 
-abbrev pub held : Holding → rules.Holding
-held (Holds gpa) = holds gpa
-held Nothing = nothing
-held (Fails r) = fails (means r)
+-- what a frame is to a guest: its place at an address, no place of it, or what a census refuses with
+abbrev pub held : Result (Option ℕ) Refusal → rules.Holding
+held (Ok (Some gpa)) = holds gpa
+held (Ok None) = nothing
+held (Err r) = fails (means r)
 
-abbrev pub tallied : Tally → rules.Tally
-tallied (Total places) = total places
-tallied (Stopped r) = stopped (means r)
+-- how many places a guest has, or the first refusal that was met
+abbrev pub tallied : Result ℕ Refusal → rules.Tally
+tallied (Ok places) = total places
+tallied (Err r) = stopped (means r)

@@ -1,106 +1,62 @@
 // CENSUS: how many places a guest has.
 #![tactic(auto)]
 
-ghost use Rattle.std.specs.Prelude.{◌≡◌, ◌<◌};
-ghost use Rattle.rmp.specs.Table.{covered};
-ghost use Rattle.rules.specs.Census.{total, in_leaf, holding, counted, tally, census};
-ghost use Rattle.rules.specs.State.{state};
+ghost use Rattle.std.specs.Prelude.{◌≡◌};
+ghost use Rattle.rules.specs.Census.{in_leaf, holding, tally, census};
+ghost use Rattle.rules.specs.State.{state, N};
 ghost use Rattle.checks.specs.Answer.{gave};
 ghost use Rattle.census.specs.Census.{held, tallied};
 
-use checks::answer::{Answer, Refusal};
+use checks::answer::Answer;
 use checks::begin::begin_census;
-use checks::gate::Gate;
 use checks::leaves;
-use entries::entry::Decoded;
+use checks::refusal::Refusal;
+use checks::state::State;
 use entries::leaf::LeafWord;
-use rmp::table;
-
-// What a frame is to a guest: its place at an address, no place of it, or what a census refuses with.
-#[derive(Clone, Copy)]
-enum Holding {
-    Holds(u64),
-    Nothing,
-    Fails(Refusal),
-}
-
-fn in_leaf(word: LeafWord) -> Holding
-    ensures { held result ≡ in_leaf word }
-{
-    match word {
-        LeafWord::Absent => Holding::Nothing,
-        LeafWord::Present(gpa) => Holding::Holds(gpa),
-        LeafWord::Misshapen => Holding::Fails(Refusal::BrokenLeaf),
-    }
-}
-
-fn holding_at(table: &[u64], memory: &[u64], guest: u64, frame: usize) -> Holding
-    ensures { held result ≡ holding (state table.now memory.now) guest frame }
-{
-    let here = table::read(table, frame);
-    let Decoded::Good(page) = here else {
-        return Holding::Fails(Refusal::BadEntry(here.reason()));
-    };
-    let fixed = page.fixed;
-    if fixed {
-        return in_leaf(leaves::consulted(table, memory, page, guest));
-    }
-    let own = page.validated & (page.asid == guest);
-    if own {
-        return Holding::Holds(page.address);
-    }
-    Holding::Nothing
-}
-
-// How many places a guest has, or the first refusal that was met.
-#[derive(Clone, Copy)]
-enum Tally {
-    Total(u64),
-    Stopped(Refusal),
-}
-
-// One frame more, after so many places.
-fn counted(places: u64, here: Holding) -> Tally
-    requires { places < 0xffffffffffffffff }
-    ensures { tallied result ≡ counted (total places) (held here) }
-{
-    match here {
-        Holding::Holds(_) => Tally::Total(places + 1),
-        Holding::Nothing => Tally::Total(places),
-        Holding::Fails(refusal) => Tally::Stopped(refusal),
-    }
-}
-
-fn count_places(table: &[u64], memory: &[u64], guest: u64) -> Tally
-    ensures { tallied result
-        ≡ tally (state table.now memory.now) guest (covered table.now) }
-{
-    let n = table::covered(table);
-    let mut places: u64 = 0;
-    let mut frame = 0;
-    while frame < n {
-        let next = counted(places, holding_at(table, memory, guest, frame));
-        let Tally::Total(more) = next else {
-            return next;
-        };
-        places = more;
-        frame += 1;
-    }
-    Tally::Total(places)
-}
 
 // How many places the guest `asid` has.
-pub fn census(table: &[u64], memory: &[u64], asid: u64) -> Answer
+pub fn census(table: &[u64], memory: &[u64], asid: u64) -> Result<Answer, Refusal>
     ensures { gave result table.now memory.now
         ≡ census (state table.now memory.now) asid }
 {
-    let begun = begin_census(table, memory, asid);
-    if let Gate::Shut(refusal) = begun {
-        return Answer::Refused(refusal);
+    let state = State::new(table, memory);
+    begin_census(&state, asid)?;
+    let places = count_places(&state, asid)?;
+    Ok(Answer::Count(places))
+}
+
+// How many places a guest has, or the first refusal that was met.
+fn count_places(state: &State<'_>, guest: u64) -> Result<u64, Refusal>
+    ensures { tallied result ≡ tally state.now guest (N state.now) }
+{
+    let mut places = 0;
+    for frame in 0..state.covered() {
+        if holding_at(state, guest, frame)?.is_some() {
+            places += 1;
+        }
     }
-    let counted = count_places(table, memory, asid);
-    match counted {
-        Tally::Total(places) => Answer::Count(places),
-        Tally::Stopped(refusal) => Answer::Refused(refusal),
+    Ok(places)
+}
+
+// A frame's place of a guest: its address, where there is one.
+fn holding_at(state: &State<'_>, guest: u64, frame: usize) -> Result<Option<u64>, Refusal>
+    ensures { held result ≡ holding state.now guest frame }
+{
+    let page = state.entry(frame)?;
+    if page.fixed {
+        return in_leaf(leaves::consulted(state, page, guest));
+    }
+    let own = page.validated & (page.asid == guest);
+    Ok(own.then_some(page.address))
+}
+
+#[tactic(auto, unfolding(rules::specs::Census::in_leaf))]
+fn in_leaf(word: LeafWord) -> Result<Option<u64>, Refusal>
+    ensures { held result ≡ in_leaf word }
+{
+    match word {
+        LeafWord::Absent => Ok(None),
+        LeafWord::Present(gpa) => Ok(Some(gpa)),
+        LeafWord::Misshapen => Err(Refusal::BrokenLeaf),
     }
 }

@@ -1,2 +1,4 @@
--- The checks of a call up to its named frames, as the rules say them.
+-- The laws of what checks come to, which the calls' proofs cite.
+pub mod CallLaws
 pub mod NamedLaws
+pub mod PassedLaws

@@ -1,22 +1,20 @@
--- 01, "The calls": "An entry is decoded before use; a call goes on only with a decoded entry." What the checks before it and the decoding
--- of the named frames' entries come to, in code: the entries, or a refusal.
-use Rattle.entries.specs.declared.entry.Decoded.{Decoded}
-use Rattle.entries.specs.declared.entry.Decoded.TheVariants.{Good, Bad}
-use Rattle.checks.specs.declared.answer.Refusal.TheVariants.{BadEntry}
-use Rattle.checks.specs.declared.gate.Gate.{Gate}
-use Rattle.checks.specs.declared.gate.Gate.TheVariants.{Open, Shut}
-use Rattle.checks.specs.declared.passed.Named.{Named}
-use Rattle.checks.specs.declared.passed.Named.TheVariants as named
-use Rattle.checks.specs.declared.passed.BothNamed.{BothNamed}
-use Rattle.checks.specs.declared.passed.BothNamed.TheVariants as pair
+-- 01, "The calls": "An entry is decoded before use; a call goes on only with a decoded entry." What the decoding of the named frames'
+-- entries comes to, in code: the entries, or a refusal.
+use Rattle.std.specs.Prelude.{Result, Ok, Err}
+use Rattle.entries.specs.Entry.{Decoded}
+use Rattle.entries.specs.declared.entry.Entry.{Entry}
+use Rattle.checks.specs.declared.refusal.Refusal.{Refusal}
+use Rattle.checks.specs.declared.refusal.Refusal.TheVariants.{BadEntry}
 
-unfoldable pub named_of : Gate → Decoded → Named
-named_of (Shut r) d = named.Refused r
-named_of Open (Bad reason) = named.Refused (BadEntry reason)
-named_of Open (Good e) = named.Good e
+unfoldable pub named : Decoded → Result Entry Refusal
+named (Ok e) = Ok e
+named (Err reason) = Err (BadEntry reason)
 
 -- of two frames: the first, then the second
-unfoldable pub and_named : Named → Decoded → BothNamed
-and_named (named.Refused r) d = pair.Refused r
-and_named (named.Good one) (Bad reason) = pair.Refused (BadEntry reason)
-and_named (named.Good one) (Good two) = pair.Good one two
+unfoldable pub and_named : Result Entry Refusal → Decoded → Result (Entry × Entry) Refusal
+and_named (Err r) d = Err r
+and_named (Ok one) (Err reason) = Err (BadEntry reason)
+and_named (Ok one) (Ok two) = Ok (one, two)
+
+abbrev pub both_named : Decoded → Decoded → Result (Entry × Entry) Refusal
+both_named d1 d2 = and_named (named d1) d2

@@ -1,4 +1,4 @@
-// What arguments must be, and who may call.
+// What arguments must be, and who may call. They stand one by one, as in the definitions of the same names.
 ghost use Rattle.std.specs.Prelude.{◌≡◌};
 ghost use Rattle.rules.specs.Arguments.{is_host, update_arguments, validate_arguments, two_frame_arguments, unmerge_arguments};
 ghost use Rattle.rules.specs.Arguments.{one_frame_arguments, access_arguments, may_access};

@@ -1,40 +1,28 @@
 // The entries of the frames that a call names, decoded: a call goes on only with decoded entries.
 ghost use Rattle.std.specs.Prelude.{◌≡◌};
 ghost use Rattle.entries.specs.Entry.{frame_of};
-ghost use Rattle.rmp.specs.Table.{entry_in};
-ghost use Rattle.checks.specs.Named.{named_of, and_named};
+ghost use Rattle.rules.specs.State.{entry_at};
+ghost use Rattle.checks.specs.Named.{named, both_named};
 
-use crate::answer::Refusal;
-use crate::gate::Gate;
-use crate::passed::{BothNamed, Named};
-use entries::entry::{Decoded, frame_of};
-use rmp::table;
+use crate::refusal::Refusal;
+use crate::state::State;
+use entries::entry::{Entry, frame_of};
 
-// After the checks of `begun`: 5 of the first named frame, at `hpa`.
-pub fn first(table: &[u64], begun: Gate, hpa: u64) -> Named
-    ensures { result ≡ named_of begun (entry_in table.now (frame_of hpa)) }
+// 5 of the frame at `hpa`.
+#[tactic(auto, unfolding(crate::specs::Named::named))]
+pub fn entry(state: &State<'_>, hpa: u64) -> Result<Entry, Refusal>
+    ensures { result ≡ named (entry_at state.now (frame_of hpa)) }
 {
-    if let Gate::Shut(refusal) = begun {
-        return Named::Refused(refusal);
-    }
-    let here = table::read(table, frame_of(hpa));
-    let Decoded::Good(one) = here else {
-        return Named::Refused(Refusal::BadEntry(here.reason()));
-    };
-    Named::Good(one)
+    Ok(state.entry(frame_of(hpa))?)
 }
 
-// After the first frame: 5 of the second, at `hpa`.
-pub fn second(table: &[u64], first: Named, hpa: u64) -> BothNamed
-    ensures { result ≡ and_named first (entry_in table.now (frame_of hpa)) }
+// 5 of the frame at `hpa1`, then of that at `hpa2`.
+#[inline(always)]
+#[tactic(auto, unfolding(crate::specs::Named::named, crate::specs::Named::and_named))]
+pub fn both(state: &State<'_>, hpa1: u64, hpa2: u64) -> Result<(Entry, Entry), Refusal>
+    ensures { result ≡ both_named (entry_at state.now (frame_of hpa1)) (entry_at state.now (frame_of hpa2)) }
 {
-    let one = match first {
-        Named::Refused(refusal) => return BothNamed::Refused(refusal),
-        Named::Good(one) => one,
-    };
-    let here = table::read(table, frame_of(hpa));
-    let Decoded::Good(two) = here else {
-        return BothNamed::Refused(Refusal::BadEntry(here.reason()));
-    };
-    BothNamed::Good(one, two)
+    let one = entry(state, hpa1)?;
+    let two = entry(state, hpa2)?;
+    Ok((one, two))
 }

@@ -10,7 +10,7 @@ use borrow.Author.Tests.{eqb-true}
 use Rattle.words.specs.Choice.{pick}
 use Rattle.entries.specs.Entry.{bit, entry, fields, WellFormed, decoded, encoded}
 use Rattle.entries.specs.declared.entry.Entry.{Entry}
-use Rattle.entries.specs.declared.entry.Decoded.TheVariants.{Good}
+use Rattle.std.specs.Prelude.{Ok}
 use Rattle.entries.proofs.RuleLaws.{obeyed}
 use Rattle.entries.proofs.Tells.{tells}
 
@@ -18,9 +18,6 @@ pub bit_small : (b : Bool) → bit b ≤ 1
 unfolding bit pick
 bit_small true = omega arith
 bit_small false = omega arith
-
-pub is_bit : (r : ℕ) (b : Bool) → r ≡ bit b → r ≤ 1
-is_bit r b e = rw e (bit_small b)
 
 bit_read : (b : Bool) → eqb (bit b) 1 ≡ b
 unfolding bit pick
@@ -47,13 +44,13 @@ whole_word w none =
 
 -- encode after decode is the two words, for every pair that decodes
 module _ (n w0 w1 : ℕ) (e : Entry) where
-  pub decode_good : decoded n w0 w1 ≡ Good e → (w0 / 0x100000 ≡ 0) × (fields w0 w1 ≡ e) × WellFormed n e
+  pub decode_good : decoded n w0 w1 ≡ Ok e → (w0 / 0x100000 ≡ 0) × (fields w0 w1 ≡ e) × WellFormed n e
   unfolding decoded
   decode_good g =
       let q = obeyed n _ _ e g in
       (eqb-true _ _ q.is_clear, q.same_entry, rw (q.is_clear, q.same_entry) at g)
 
-  pub encode_decode : decoded n w0 w1 ≡ Good e → encoded e ≡ record { 0 = w0; 1 = w1 }
+  pub encode_decode : decoded n w0 w1 ≡ Ok e → encoded e ≡ record { 0 = w0; 1 = w1 }
   unfolding encoded fields entry
   encode_decode g =
       let q = decode_good g in
@@ -93,6 +90,6 @@ module _ (n : ℕ) (e : Entry) (h : WellFormed n e) where
       let d = digits_of in
       rw (d.asid_digit, d.kind_digit, d.validated_digit, d.fixed_digit, bit_read e.validated, bit_read e.fixed)
 
-  pub decode_encode : decoded n (encoded e).0 (encoded e).1 ≡ Good e
+  pub decode_encode : decoded n (encoded e).0 (encoded e).1 ≡ Ok e
   unfolding decoded
   decode_encode = rw (digits_of.no_spare, same_fields) h

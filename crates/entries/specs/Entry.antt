@@ -1,13 +1,13 @@
 -- 01, "Sizes and layout": an entry, its two words, and when it is well formed; 02, Q-2: what is bad in one that is not. All are over the
 -- code's `Entry`, a record of the five fields. `kind` is the paper's TYPE; `address` is word 1: the guest's address, or where FIXED the
 -- leaf's.
-use Rattle.std.specs.Prelude.{◌≡◌, Bool, true, false, not, ℕ, ◌+◌, ◌*◌, ◌/◌, ◌%◌, leb, ltb, eqb}
+use Rattle.std.specs.Prelude.{◌≡◌, Bool, true, false, not, ℕ, ◌+◌, ◌*◌, ◌/◌, ◌%◌, leb, ltb, eqb, Result, Ok, Err}
 use Rattle.words.specs.Choice.{pick, ◌and◌, ◌or◌}
-use Rattle.entries.specs.Reasons.{SPARE_BITS, ASID, FLAGS, ADDRESS}
+use Rattle.entries.specs.Reasons.{reason_number}
 use Rattle.entries.specs.declared.entry.Entry.{Entry}
-use Rattle.entries.specs.declared.entry.Decoded.{Decoded}
-use Rattle.entries.specs.declared.entry.Decoded.TheVariants.{Good, Bad}
 use Rattle.entries.specs.declared.entry.Words.{Words}
+use Rattle.entries.specs.declared.reason.Reason.{Reason}
+use Rattle.entries.specs.declared.reason.Reason.TheVariants.{SpareBits, Asid, Flags, Address}
 
 -- "Types: SHARED 0, PRIVATE 1, MERGEABLE 2, LEAF 3."
 abbrev pub SHARED : ℕ
@@ -71,28 +71,32 @@ address_fits n e =
     (is_unowned e.kind and eqb e.address 0)
     or (is_owned e.kind and is_address e.address and (not e.fixed or ltb (frame_of e.address) n))
 
--- Q-2: "Decoding an entry shall say which rule broke first": where this rule is broken, its reason; else what the rules after it say
-unfoldable pub rule : Bool → ℕ → Decoded → Decoded
-rule holds reason rest = pick holds rest (Bad reason)
+-- Q-2: "Decoding an entry shall say which rule broke first": an entry, or the reason of a bad one
+abbrev pub Decoded : Type 0
+Decoded = Result Entry Reason
+
+-- where this rule is broken, its reason; else what the rules after it say
+unfoldable pub rule : Bool → Reason → Decoded → Decoded
+rule holds reason rest = pick holds rest (Err reason)
 
 -- ".. in this order: 1 spare bits, 2 ASID against type, 3 flags, 4 address." In a table of n frames, whether the spare bits are clear, and
 -- the fields: the entry, or bad with the reason
 unfoldable pub by_rules : ℕ → Bool → Entry → Decoded
 by_rules n clear e =
-    rule clear SPARE_BITS
-    (rule (asid_fits e) ASID
-    (rule (flags_fit e) FLAGS
-    (rule (address_fits n e) ADDRESS
-    (Good e))))
+    rule clear SpareBits
+    (rule (asid_fits e) Asid
+    (rule (flags_fit e) Flags
+    (rule (address_fits n e) Address
+    (Ok e))))
 
 -- "Well formed", in a table of n frames: there is no reason
 abbrev pub WellFormed : ℕ → Entry → Type 0
-WellFormed n e = by_rules n true e ≡ Good e
+WellFormed n e = by_rules n true e ≡ Ok e
 
 -- the reason; 0 for none
 unfoldable pub reason_of : Decoded → ℕ
-reason_of (Good e) = 0
-reason_of (Bad reason) = reason
+reason_of (Ok e) = 0
+reason_of (Err reason) = reason_number reason
 
 -- "Entry, word 0: bits 15:0 ASID, 17:16 TYPE, 18 VALIDATED, 19 FIXED, the rest zero. Word 1: GPA." These are the fields, whatever the
 -- rest is

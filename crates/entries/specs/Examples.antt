@@ -1,10 +1,9 @@
 -- 01, "Entries on both sides of the line (to be proved, N = 8)": the sixteen examples, in the paper's order, the bad entries with the
 -- reason that 02, Q-2 gives them; and then entries that break two rules.
-use Rattle.std.specs.Prelude.{List, [], ◌∷◌, ℕ}
-use Rattle.entries.specs.Entry.{decoded}
+use Rattle.std.specs.Prelude.{List, [], ◌∷◌, ℕ, Ok, Err}
+use Rattle.entries.specs.Entry.{Decoded, decoded}
 use Rattle.entries.specs.Leaf.{leaf_word}
-use Rattle.entries.specs.declared.entry.Decoded.{Decoded}
-use Rattle.entries.specs.declared.entry.Decoded.TheVariants.{Good, Bad}
+use Rattle.entries.specs.Reasons.{reason_number}
 use Rattle.entries.specs.declared.leaf.LeafWord.{LeafWord}
 use Rattle.entries.specs.declared.leaf.LeafWord.TheVariants.{Absent, Present, Misshapen}
 
@@ -31,8 +30,8 @@ g is s = record { given = g; says = s }
 
 -- what the definitions say
 unfoldable pub of_entry : Decoded → Says
-of_entry (Good e) = good
-of_entry (Bad reason) = bad reason
+of_entry (Ok e) = good
+of_entry (Err reason) = bad (reason_number reason)
 
 unfoldable pub of_leaf : LeafWord → Says
 of_leaf Absent = absent

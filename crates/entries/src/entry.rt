@@ -1,9 +1,10 @@
 // An entry of the RMP, and the numbers in it.
 ghost use Rattle.std.specs.Prelude.{◌≡◌};
 ghost use Rattle.entries.specs.Entry.{is_address, frame_of, is_party, is_guest, is_owned, is_unowned};
-ghost use Rattle.entries.specs.Entry.{reason_of, zero_entry, to_validated, to_fixed, to_moved};
+ghost use Rattle.entries.specs.Entry.{zero_entry, to_validated, to_fixed, to_moved};
 
-// The types of a page.
+// The types of a page. Numbers, and no enum: a call names a type by any 64-bit number from C, an entry's is compared with it, and `encode` and
+// the rules' definitions are of every number.
 pub const SHARED: u64 = 0;
 
 pub const PRIVATE: u64 = 1;
@@ -12,45 +13,15 @@ pub const MERGEABLE: u64 = 2;
 
 pub const LEAF: u64 = 3;
 
-// `address` is the guest's address of the page or, where the page is fixed, the address of its leaf.
-#[derive(Clone, Copy)]
+// `address` is the guest's address of the page or, where the page is fixed, the address of its leaf. (A field and a flag, and no enum of
+// both: `fields` and `encoded` are of every two words, also of those that break the rules.)
+#[derive(Clone, Copy, Default)]
 pub struct Entry {
     pub asid: u64,
     pub kind: u64,
     pub validated: bool,
     pub fixed: bool,
     pub address: u64,
-}
-
-// What two words of the table hold: an entry, or the reason of a bad one.
-#[derive(Clone, Copy)]
-pub enum Decoded {
-    Good(Entry),
-    Bad(u8),
-}
-
-// The reasons, by the rule that a bad entry breaks first.
-pub const SPARE_BITS: u8 = 1;
-
-pub const ASID: u8 = 2;
-
-pub const FLAGS: u8 = 3;
-
-pub const ADDRESS: u8 = 4;
-
-// There is no entry: the table does not cover the frame.
-pub const NO_ENTRY: u8 = 0;
-
-impl Decoded {
-    // The reason; 0 where it is good.
-    pub fn reason(self) -> u8
-        ensures { result ≡ reason_of self }
-    {
-        match self {
-            Decoded::Good(_) => 0,
-            Decoded::Bad(reason) => reason,
-        }
-    }
 }
 
 // The two words of an entry.
@@ -68,6 +39,7 @@ pub fn is_address(a: u64) -> bool
 }
 
 // The number of the frame at an address.
+#[tactic(auto, unfolding(crate::specs::Entry::frame_of))]
 pub fn frame_of(hpa: u64) -> usize
     ensures { result ≡ frame_of hpa }
 {
@@ -75,6 +47,7 @@ pub fn frame_of(hpa: u64) -> usize
 }
 
 // A guest's number, or 0, the host's.
+#[tactic(auto, unfolding(crate::specs::Entry::is_party))]
 pub fn is_party(asid: u64) -> bool
     ensures { result ≡ is_party asid }
 {
@@ -104,54 +77,46 @@ pub fn is_unowned(kind: u64) -> bool
 
 impl Entry {
     // The entry of two zero words: SHARED.
+    #[tactic(auto, unfolding(crate::specs::Entry::zero_entry, crate::specs::Entry::entry))]
     pub fn zero() -> Entry
         ensures { result ≡ zero_entry }
     {
-        Entry {
-            asid: 0,
-            kind: SHARED,
-            validated: false,
-            fixed: false,
-            address: 0,
-        }
+        Entry::default()
     }
 
     // The entry with VALIDATED set.
+    #[tactic(auto, unfolding(crate::specs::Entry::to_validated, crate::specs::Entry::entry))]
     pub fn to_validated(self) -> Entry
         ensures { result ≡ to_validated self }
     {
         Entry {
-            asid: self.asid,
-            kind: self.kind,
             validated: true,
-            fixed: self.fixed,
-            address: self.address,
+            ..self
         }
     }
 
     // The entry with FIXED set, at the address of its leaf.
+    #[tactic(auto, unfolding(crate::specs::Entry::to_fixed, crate::specs::Entry::entry))]
     pub fn to_fixed(self, leaf: u64) -> Entry
         ensures { result ≡ to_fixed self leaf }
     {
         Entry {
-            asid: self.asid,
-            kind: self.kind,
-            validated: self.validated,
             fixed: true,
             address: leaf,
+            ..self
         }
     }
 
     // The entry with FIXED clear, of this guest and at its address.
+    #[tactic(auto, unfolding(crate::specs::Entry::to_moved, crate::specs::Entry::entry))]
     pub fn to_moved(self, asid: u64, gpa: u64) -> Entry
         ensures { result ≡ to_moved self asid gpa }
     {
         Entry {
             asid,
-            kind: self.kind,
-            validated: self.validated,
             fixed: false,
             address: gpa,
+            ..self
         }
     }
 }

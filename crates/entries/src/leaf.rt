@@ -4,7 +4,8 @@ ghost use Rattle.entries.specs.Leaf.{leaf_word, present_at};
 
 use crate::entry;
 
-// What a word of a leaf page says of its guest: it has no place in the page, it has one at this guest address, or neither.
+// What a word of a leaf page says of its guest: it has no place in the page, it has one at this guest address, or neither. The paper's three
+// cases by their names: a `Result` of an `Option` would tell them less plainly.
 #[derive(Clone, Copy)]
 pub enum LeafWord {
     Absent,
@@ -12,6 +13,7 @@ pub enum LeafWord {
     Misshapen,
 }
 
+#[tactic(auto, unfolding(crate::specs::Leaf::leaf_word, words::specs::Choice::pick))]
 pub fn leaf_word(word: u64) -> LeafWord
     ensures { result ≡ leaf_word word }
 {
@@ -19,8 +21,7 @@ pub fn leaf_word(word: u64) -> LeafWord
         return LeafWord::Absent;
     }
     let gpa = word - 1;
-    let shapely = entry::is_address(gpa);
-    if shapely {
+    if entry::is_address(gpa) {
         LeafWord::Present(gpa)
     } else {
         LeafWord::Misshapen
@@ -28,6 +29,7 @@ pub fn leaf_word(word: u64) -> LeafWord
 }
 
 // The word that says: present at this guest address.
+#[tactic(auto, unfolding(crate::specs::Leaf::present_at))]
 pub fn present_at(gpa: u64) -> u64
     ensures { result ≡ present_at gpa }
 {

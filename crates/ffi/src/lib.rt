@@ -17,7 +17,7 @@ ghost use Rattle.requests.specs.Requests.{CALL, PAGE_WRITE, PAGE_CHECK, telling}
 ghost use Rattle.requests.specs.Run.{Ruled};
 ghost use Rattle.flat.specs.Flat.{returned, flattened, said};
 
-use flat::{Flat, flatten};
+use flat::Flat;
 
 #[unsafe(no_mangle)]
 pub extern "C" fn skorbilek_rmpupdate(
@@ -34,7 +34,7 @@ pub extern "C" fn skorbilek_rmpupdate(
     ensures ruled { Ruled (asked (CALL (RMPUPDATE caller hpa gpa asid kind)) (state table.old memory.old)
         (telling (said result table.new memory.new))) }
 {
-    flatten(monitor::rmpupdate(table, memory, caller, hpa, gpa, asid, kind))
+    Flat::from(monitor::rmpupdate(table, memory, caller, hpa, gpa, asid, kind))
 }
 
 #[unsafe(no_mangle)]
@@ -51,7 +51,7 @@ pub extern "C" fn skorbilek_pvalidate(
     ensures ruled { Ruled (asked (CALL (PVALIDATE caller gpa hpa kind)) (state table.old memory.now)
         (telling (said result table.new memory.now))) }
 {
-    flatten(monitor::pvalidate(table, memory, caller, gpa, hpa, kind))
+    Flat::from(monitor::pvalidate(table, memory, caller, gpa, hpa, kind))
 }
 
 #[unsafe(no_mangle)]
@@ -67,7 +67,7 @@ pub extern "C" fn skorbilek_pfix(
     ensures ruled { Ruled (asked (CALL (PFIX caller hpa leaf)) (state table.old memory.old)
         (telling (said result table.new memory.new))) }
 {
-    flatten(monitor::pfix(table, memory, caller, hpa, leaf))
+    Flat::from(monitor::pfix(table, memory, caller, hpa, leaf))
 }
 
 #[unsafe(no_mangle)]
@@ -83,7 +83,7 @@ pub extern "C" fn skorbilek_pmerge(
     ensures ruled { Ruled (asked (CALL (PMERGE caller hpa1 hpa2)) (state table.old memory.old)
         (telling (said result table.new memory.new))) }
 {
-    flatten(monitor::pmerge(table, memory, caller, hpa1, hpa2))
+    Flat::from(monitor::pmerge(table, memory, caller, hpa1, hpa2))
 }
 
 #[unsafe(no_mangle)]
@@ -100,7 +100,7 @@ pub extern "C" fn skorbilek_punmerge(
     ensures ruled { Ruled (asked (CALL (PUNMERGE caller hpa1 hpa2 asid)) (state table.old memory.old)
         (telling (said result table.new memory.new))) }
 {
-    flatten(monitor::punmerge(table, memory, caller, hpa1, hpa2, asid))
+    Flat::from(monitor::punmerge(table, memory, caller, hpa1, hpa2, asid))
 }
 
 #[unsafe(no_mangle)]
@@ -115,7 +115,7 @@ pub extern "C" fn skorbilek_punfix(
     ensures ruled { Ruled (asked (CALL (PUNFIX caller hpa)) (state table.old memory.old)
         (telling (said result table.new memory.new))) }
 {
-    flatten(monitor::punfix(table, memory, caller, hpa))
+    Flat::from(monitor::punfix(table, memory, caller, hpa))
 }
 
 #[unsafe(no_mangle)]
@@ -134,7 +134,7 @@ pub extern "C" fn skorbilek_read(
     ensures ruled { Ruled (asked (CALL (READ caller gpa hpa gtype ntype index)) (state table.now memory.now)
         (telling (said result table.now memory.now))) }
 {
-    flatten(monitor::read(table, memory, caller, gpa, hpa, gtype, ntype, index))
+    Flat::from(monitor::read(table, memory, caller, gpa, hpa, gtype, ntype, index))
 }
 
 #[unsafe(no_mangle)]
@@ -154,7 +154,7 @@ pub extern "C" fn skorbilek_write(
     ensures ruled { Ruled (asked (CALL (WRITE caller gpa hpa gtype ntype index value)) (state table.now memory.old)
         (telling (said result table.now memory.new))) }
 {
-    flatten(monitor::write(table, memory, caller, gpa, hpa, gtype, ntype, index, value))
+    Flat::from(monitor::write(table, memory, caller, gpa, hpa, gtype, ntype, index, value))
 }
 
 #[unsafe(no_mangle)]
@@ -164,7 +164,7 @@ pub extern "C" fn skorbilek_census(table: &[u64], memory: &[u64], asid: u64) -> 
     ensures ruled { Ruled (asked (CALL (CENSUS asid)) (state table.now memory.now)
         (telling (said result table.now memory.now))) }
 {
-    flatten(monitor::census(table, memory, asid))
+    Flat::from(monitor::census(table, memory, asid))
 }
 
 #[unsafe(no_mangle)]
@@ -180,7 +180,7 @@ pub extern "C" fn skorbilek_page_check(
     ensures ruled { Ruled (asked (PAGE_CHECK caller gpa hpa) (state table.now memory.now)
         (telling (said result table.now memory.now))) }
 {
-    flatten(pages::page_check(table, memory, caller, gpa, hpa))
+    Flat::from(pages::page_check(table, memory, caller, gpa, hpa))
 }
 
 #[unsafe(no_mangle)]
@@ -197,5 +197,5 @@ pub extern "C" fn skorbilek_page_write(
     ensures ruled { Ruled (asked (PAGE_WRITE caller gpa hpa words.now) (state table.now memory.old)
         (telling (said result table.now memory.new))) }
 {
-    flatten(pages::page_write(table, memory, caller, gpa, hpa, words))
+    Flat::from(pages::page_write(table, memory, caller, gpa, hpa, words))
 }

@@ -2,6 +2,9 @@
 // call by virtual address is PVALIDATE, READ or WRITE on what the walk yields. Each promises two things: what it returns and leaves is the
 // rule's reply, flattened; and it is a request of a run, so that demand 3 is kept by every run of them.
 //
+// The three calls by virtual address stay three bodies: through one function with the call as a closure each promise would have to say what
+// the closure changes.
+//
 // They are built apart from the other exported functions (`ffi`), and put into one archive with them: in one build PVALIDATE, READ and
 // WRITE would have two callers each, and would be compiled into neither.
 #![tactic(auto)]
@@ -18,12 +21,11 @@ ghost use Rattle.flat.specs.Virtual.{flat_mapping, said_mapping, flattened_reply
 
 use access::transfer::{read, write};
 use assignment::pvalidate;
-use checks::answer::Answer;
 use entries::entry::is_owned;
-use flat::virtual_address::{FlatMapping, flatten_mapping, name};
-use flat::{Flat, flatten};
+use flat::Flat;
+use flat::virtual_address::{FlatMapping, name};
 use walk::begin::translate;
-use walk::guest::Mapped;
+use walk::guest::Virtual;
 
 #[unsafe(no_mangle)]
 pub extern "C" fn skorbilek_walk(
@@ -42,7 +44,14 @@ pub extern "C" fn skorbilek_walk(
         (state table.now memory.now)
         (said_mapping result table.now memory.now)) }
 {
-    flatten_mapping(translate(table, memory, caller, root, host_root, root_type, va, true))
+    let at = Virtual {
+        caller,
+        root,
+        host_root,
+        root_type,
+        va,
+    };
+    FlatMapping::from(translate(table, memory, &at, true))
 }
 
 #[unsafe(no_mangle)]
@@ -63,22 +72,19 @@ pub extern "C" fn skorbilek_pvalidate_va(
         (state table.old memory.now)
         (said_named result table.new memory.now)) }
 {
-    let found = translate(
-        table,
-        memory,
+    let at = Virtual {
         caller,
         root,
         host_root,
         root_type,
         va,
-        is_owned(kind),
-    );
-    match found {
-        Mapped::To(at) => {
-            let answer = pvalidate(table, memory, caller, at.gpa, at.hpa, kind);
-            name(flatten(answer), at.gpa)
+    };
+    match translate(table, memory, &at, is_owned(kind)) {
+        Ok(page) => {
+            let answer = pvalidate(table, memory, caller, page.gpa, page.hpa, kind);
+            name(Flat::from(answer), page.gpa)
         }
-        Mapped::Stops(refusal) => flatten(Answer::Refused(refusal)),
+        Err(refusal) => Flat::from(Err(refusal)),
     }
 }
 
@@ -100,24 +106,21 @@ pub extern "C" fn skorbilek_read_va(
         (state table.now memory.now)
         (said_named result table.now memory.now)) }
 {
-    let found = translate(
-        table,
-        memory,
+    let at = Virtual {
         caller,
         root,
         host_root,
         root_type,
         va,
-        index <= 511,
-    );
-    match found {
-        Mapped::To(at) => {
+    };
+    match translate(table, memory, &at, index <= 511) {
+        Ok(page) => {
             let answer = read(
-                table, memory, caller, at.gpa, at.hpa, at.gtype, at.ntype, index,
+                table, memory, caller, page.gpa, page.hpa, page.gtype, page.ntype, index,
             );
-            name(flatten(answer), at.gpa)
+            name(Flat::from(answer), page.gpa)
         }
-        Mapped::Stops(refusal) => flatten(Answer::Refused(refusal)),
+        Err(refusal) => Flat::from(Err(refusal)),
     }
 }
 
@@ -140,23 +143,20 @@ pub extern "C" fn skorbilek_write_va(
         (state table.now memory.old)
         (said_named result table.now memory.new)) }
 {
-    let found = translate(
-        table,
-        memory,
+    let at = Virtual {
         caller,
         root,
         host_root,
         root_type,
         va,
-        index <= 511,
-    );
-    match found {
-        Mapped::To(at) => {
+    };
+    match translate(table, memory, &at, index <= 511) {
+        Ok(page) => {
             let answer = write(
-                table, memory, caller, at.gpa, at.hpa, at.gtype, at.ntype, index, value,
+                table, memory, caller, page.gpa, page.hpa, page.gtype, page.ntype, index, value,
             );
-            name(flatten(answer), at.gpa)
+            name(Flat::from(answer), page.gpa)
         }
-        Mapped::Stops(refusal) => flatten(Answer::Refused(refusal)),
+        Err(refusal) => Flat::from(Err(refusal)),
     }
 }

@@ -1,53 +1,42 @@
--- The scan of the table: what one frame more makes of the answer so far, that a leaf found in use stays in use, however many frames follow,
--- and which entries need not be decoded.
+-- The scan of the table: a test of each frame in turn, and which entries need not be decoded.
 -- Assumes nothing.
-use mathlib.Core.Path.{◌≡◌, refl, sym}
-use mathlib.Core.Bool.{Bool, true, false}
-use mathlib.Core.List.{List}
-use Prim.Native.Nat.{ℕ, zero, suc, ◌+◌, ◌<◌, ◌≤◌}
-use native.Mathlib.Decide.{ℕ_discrete}
-use native.Mathlib.Numerals.{add-one}
-use native.Mathlib.Omega.{arith}
-use lib.Dec.{eqb}
+use Rattle.std.proofs.Common.{◌≡◌, refl, ◌∙◌, ℕ, zero, suc, ◌+◌, add-zero, add-one, false, ◌||◌, ap, List, arith}
+use Rattle.std.specs.Prelude.{Ok, Err, eqb}
+use Rattle.std.proofs.Math.Bool.{or-false, or_assoc}
+use Rattle.std.specs.List.{list_any, range_with_len}
 use Rattle.words.specs.Choice.{◌or◌}
 use Rattle.words.proofs.ChoiceLaws.{and_not}
-use Rattle.entries.specs.declared.entry.Decoded.{Decoded}
-use Rattle.entries.specs.declared.entry.Decoded.TheVariants.{Good, Bad}
+use Rattle.entries.specs.Entry.{Decoded}
 use Rattle.rmp.specs.Table.{entry_in, address_in}
 use Rattle.rmp.proofs.TableLaws.{entry_address}
 use Rattle.rules.specs.Leaves.{names_leaf, leaf_in_use}
-use Rattle.rules.specs.State.{State, state, entry_at}
-
-used_stays : (s : State) (leaf frame n : ℕ) → leaf_in_use s leaf frame ≡ true → frame ≤ n → leaf_in_use s leaf n ≡ true
-unfolding leaf_in_use ◌or◌
-used_stays s leaf frame zero h below = let z : frame ≡ 0 = omega arith in rw z at h
-used_stays s leaf frame (suc n) h below =
-    elim (ℕ_discrete frame (suc n)) [
-      | yes e ↦ rw e at h
-      | no e ↦ rw (used_stays s leaf frame n h (omega (arith, e)))
-    ]
+use Rattle.rules.specs.State.{State, entry_at}
 
 -- an entry in which another address stands does not name the leaf
 by_entry :
     (t : List ℕ) (frame leaf : ℕ) → eqb (address_in t frame) leaf ≡ false → (here : Decoded) → entry_in t frame ≡ here
     → names_leaf here leaf ≡ false
 unfolding names_leaf
-by_entry t frame leaf other (Good e) found = and_not _ _ (rw (← entry_address t frame e found) other)
-by_entry t frame leaf other (Bad reason) found = refl
+by_entry t frame leaf other (Ok e) found = and_not _ _ (rw (← entry_address t frame e found) other)
+by_entry t frame leaf other (Err reason) found = refl
 
-pub not_named : (t : List ℕ) (frame leaf : ℕ) → eqb (address_in t frame) leaf ≡ false → names_leaf (entry_in t frame) leaf ≡ false
-not_named t frame leaf other = by_entry t frame leaf other (entry_in t frame) refl
+module _ (s : State) (leaf : ℕ) where
+  pub not_named : (frame : ℕ) → eqb (address_in s.table frame) leaf ≡ false → names_leaf (entry_at s frame) leaf ≡ false
+  unfolding entry_at
+  not_named frame other = by_entry s.table frame leaf other (entry_in s.table frame) refl
 
--- one frame more
-module _
-    (t m : List ℕ) (leaf frame : ℕ) (named : Bool) (so_far : leaf_in_use (state t m) leaf frame ≡ false)
-    (told : named ≡ names_leaf (entry_in t frame) leaf) where
-  one_more : leaf_in_use (state t m) leaf (frame + 1) ≡ named
-  unfolding leaf_in_use entry_at ◌or◌
-  one_more = rw (add-one, so_far, told)
+  one_more : (m : ℕ) → leaf_in_use s leaf (m + 1) ≡ (leaf_in_use s leaf m || names_leaf (entry_at s m) leaf)
+  unfolding leaf_in_use ◌or◌
+  one_more m = rw add-one
 
-  pub in_use : (n : ℕ) → named ≡ true → frame < n → true ≡ leaf_in_use (state t m) leaf n
-  in_use n h below = sym (used_stays (state t m) leaf (frame + 1) n (cc one_more) (omega arith))
+  -- the frames below m, and n more
+  more_names :
+      (m n : ℕ)
+      → (leaf_in_use s leaf m || list_any (λ k. names_leaf (entry_at s k) leaf) (range_with_len m n)) ≡ leaf_in_use s leaf (m + n)
+  more_names m zero = rw add-zero (or-false _)
+  more_names m (suc n) =
+      let e : m + suc n ≡ m + 1 + n = omega arith in rw (e, ← or_assoc, ← one_more m) (more_names (m + 1) n)
 
-  pub still_unused : named ≡ false → leaf_in_use (state t m) leaf (frame + 1) ≡ false
-  still_unused h = cc one_more
+  pub any_names : (n : ℕ) → list_any (λ k. names_leaf (entry_at s k) leaf) (range_with_len 0 n) ≡ leaf_in_use s leaf n
+  unfolding leaf_in_use
+  any_names n = let e : 0 + n ≡ n = omega arith in more_names 0 n ∙ ap (leaf_in_use s leaf) e

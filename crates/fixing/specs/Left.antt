@@ -1,13 +1,9 @@
--- Who is left in a fixed page, in code, or a refusal. This is the verdict, where the rest of the call is as given: for one guest, with its
--- number and its address, and for nobody.
-use Rattle.std.specs.Prelude.{ℕ}
-use Rattle.entries.specs.declared.entry.Entry.{Entry}
-use Rattle.rules.specs.Answers.{Verdict, refuse}
-use Rattle.checks.specs.Answer.{means}
-use Rattle.fixing.specs.declared.unfix.Left.{Left}
-use Rattle.fixing.specs.declared.unfix.Left.TheVariants.{Guest, Nobody, Refused}
+-- 02, Q-3: "One, at the ASID of any guest: that guest becomes the owner, with that word's address .. None: page and leaf are both zeroed
+-- and turn SHARED." What follows for who is left in a fixed page, in code: for one guest, with its number and its address, and for nobody.
+use Rattle.std.specs.Prelude.{ℕ, Option, Some, None}
+use Rattle.rules.specs.Answers.{Verdict}
+use Rattle.fixing.specs.declared.unfix.Guest.{Guest}
 
-unfoldable pub with_left : Left → (Entry → ℕ → ℕ → Verdict) → (Entry → Verdict) → Verdict
-with_left (Guest page guest gpa) one none = one page guest gpa
-with_left (Nobody page) one none = none page
-with_left (Refused r) one none = refuse (means r)
+unfoldable pub by_left : Option Guest → (ℕ → ℕ → Verdict) → Verdict → Verdict
+by_left (Some guest) one none = one guest.asid guest.gpa
+by_left None one none = none

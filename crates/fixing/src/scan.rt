@@ -1,45 +1,27 @@
 // 15: who uses a leaf. The check looks through the whole table.
 ghost use Rattle.std.specs.Prelude.{◌≡◌, List, ℕ};
-ghost use Rattle.rmp.specs.Table.{covered, entry_in};
 ghost use Rattle.rules.specs.Leaves.{names_leaf, leaf_in_use};
-ghost use Rattle.rules.specs.State.{state};
+ghost use Rattle.rules.specs.State as rules;
+ghost use Rattle.rules.specs.State.{N, entry_at};
 
-use entries::entry::Decoded;
-use rmp::table;
+use checks::state::State;
 
-fn names_leaf(decoded: Decoded, leaf: u64) -> bool
-    ensures { result ≡ names_leaf decoded leaf }
+// 15: whether some well formed FIXED entry names the leaf at this address, which is so whatever memory holds. Compiled apart, so that the
+// loop has the registers: inlined into PFIX it reads the address from the stack again for each entry.
+#[inline(never)]
+pub fn leaf_in_use(state: &State<'_>, leaf: u64) -> bool
+    ensures { (memory : List ℕ) → result ≡ leaf_in_use (rules.state state.now.table memory) leaf (N state.now) }
 {
-    let Decoded::Good(e) = decoded else {
-        return false;
-    };
-    e.fixed & (e.address == leaf)
+    (0..state.covered()).any(|frame| names_leaf(state, frame, leaf))
 }
 
 // Only an entry in which the leaf's address stands is decoded: no other can name the leaf.
-fn frame_names_leaf(table: &[u64], frame: usize, leaf: u64) -> bool
-    ensures { result ≡ names_leaf (entry_in table.now frame) leaf }
+fn names_leaf(state: &State<'_>, frame: usize, leaf: u64) -> bool
+    ensures { result ≡ names_leaf (entry_at state.now frame) leaf }
 {
-    let there = table::address(table, frame) == leaf;
-    if there {
-        return names_leaf(table::read(table, frame), leaf);
-    }
-    false
-}
-
-// 15: whether some well formed FIXED entry names the leaf at this address.
-pub fn leaf_in_use(table: &[u64], leaf: u64) -> bool
-    ensures { (memory : List ℕ) → result
-        ≡ leaf_in_use (state table.now memory) leaf (covered table.now) }
-{
-    let n = table::covered(table);
-    let mut frame = 0;
-    while frame < n {
-        let named = frame_names_leaf(table, frame, leaf);
-        if named {
-            return true;
-        }
-        frame += 1;
-    }
-    false
+    let there = state.address(frame) == leaf;
+    there
+        && state
+            .entry(frame)
+            .is_ok_and(|e| e.fixed && e.address == leaf)
 }

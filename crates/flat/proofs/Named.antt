@@ -4,19 +4,19 @@
 use mathlib.Core.Path.{◌≡◌, refl, ap, ◌∙◌}
 use mathlib.Core.List.{List}
 use Prim.Native.Nat.{ℕ}
+use Rattle.std.specs.Prelude.{Result, Ok, Err}
 use Rattle.words.specs.Choice.{pick, ◌or◌}
 use Rattle.rules.specs.Answers.{Told, refused, done, none, closed, opened, already, unfixed, word, count, Outcome, outcome}
 use Rattle.rules.specs.State.{State, state}
 use Rattle.checks.specs.Answer.{means}
-use Rattle.checks.specs.declared.answer.Refusal.{Refusal}
-use Rattle.checks.specs.declared.answer.Refusal.TheVariants.{Geometry, Argument, Caller, Outside, BadEntry, PageType, Owner, Address}
-use Rattle.checks.specs.declared.answer.Refusal.TheVariants.{NotValidated, Fixed, NotFixed, BrokenLeaf, NoPlace, PlaceTaken, LeafInUse}
-use Rattle.checks.specs.declared.answer.Refusal.TheVariants.{Contents, StillShared, AbsentEntry, LargePage}
+use Rattle.checks.specs.declared.refusal.Refusal.{Refusal}
+use Rattle.checks.specs.declared.refusal.Refusal.TheVariants.{Geometry, Argument, Caller, Outside, BadEntry, PageType, Owner, Address}
+use Rattle.checks.specs.declared.refusal.Refusal.TheVariants.{NotValidated, Fixed, NotFixed, BrokenLeaf, NoPlace, PlaceTaken, LeafInUse}
+use Rattle.checks.specs.declared.refusal.Refusal.TheVariants.{Contents, StillShared, AbsentEntry, LargePage}
 use Rattle.paging.specs.Walk.{Walked, stops, Mapping}
 use Rattle.requests.specs.Requests.{response, telling, mapped, named, naming}
 use Rattle.walk.specs.Walked as walk
-use Rattle.walk.specs.declared.guest.Mapped.{Mapped}
-use Rattle.walk.specs.declared.guest.Mapped.TheVariants.{To, Stops}
+use Rattle.walk.specs.declared.guest.Mapping as code
 use Rattle.flat.specs.Flat.{flat, returned, says}
 use Rattle.flat.specs.Virtual.{flat_mapping, says_mapping, flat_reply, may_name, name_in, NameIsNamed, says_named, NamedSays}
 use Rattle.flat.specs.Virtual.{flattened_reply, said_named}
@@ -46,13 +46,13 @@ refusal_says StillShared = refl
 refusal_says AbsentEntry = refl
 refusal_says LargePage = refl
 
-mapping_says : (found : Mapped) → says_mapping (flat_mapping (walk.mapped found)) ≡ mapped (walk.mapped found)
+mapping_says : (found : Result code.Mapping Refusal) → says_mapping (flat_mapping (walk.mapped found)) ≡ mapped (walk.mapped found)
 unfolding flat_mapping says_mapping mapped pick
-mapping_says (To m) = refl
-mapping_says (Stops r) = refusal_says r
+mapping_says (Ok m) = refl
+mapping_says (Err r) = refusal_says r
 
 pub carried_mapping :
-    (found : Mapped) {r : FlatMapping} {w : Walked Mapping} (after : State) → walk.mapped found ≡ w → r ≡ flat_mapping (walk.mapped found)
+    (found : Result code.Mapping Refusal) {r : FlatMapping} {w : Walked Mapping} (after : State) → walk.mapped found ≡ w → r ≡ flat_mapping (walk.mapped found)
     → (r ≡ flat_mapping w) × (response (says_mapping r) after ≡ response (mapped w) after)
 carried_mapping found after given flat_so =
     (flat_so ∙ ap flat_mapping given, rw (flat_so, ← given) (ap (λ reply. response reply after) (mapping_says found)))

@@ -3,13 +3,14 @@
 
 ghost use Rattle.std.specs.Prelude.{◌≡◌};
 ghost use Rattle.checks.specs.Answer.{told};
-ghost use Rattle.flat.specs.Flat.{numbers, flat};
+ghost use Rattle.flat.specs.Flat.{flat};
 
 use checks::answer::Answer;
+use checks::refusal::Refusal;
 
 pub mod virtual_address;
 
-// The kinds of answers.
+// The kinds of answers: numbers, as include/skorbilek.h has them.
 pub const REFUSED: u64 = 0;
 
 pub const DONE: u64 = 1;
@@ -30,7 +31,7 @@ pub const UNFIXED: u64 = 8;
 
 // `refusal` is the number of a refusal, or 0. `reason` comes with 5 alone: what is bad in the entry. What an answer does not have is 0.
 #[repr(C)]
-#[derive(Clone, Copy)]
+#[derive(Clone, Copy, Default)]
 pub struct Flat {
     pub refusal: u64,
     pub kind: u64,
@@ -40,33 +41,50 @@ pub struct Flat {
     pub reason: u64,
 }
 
-fn numbers(refusal: u64, kind: u64, asid: u64, gpa: u64, value: u64, reason: u64) -> Flat
-    ensures { result ≡ numbers refusal kind asid gpa value reason }
-{
-    Flat {
-        refusal,
-        kind,
-        asid,
-        gpa,
-        value,
-        reason,
-    }
-}
+impl From<Result<Answer, Refusal>> for Flat {
+    ghost from_gives = { λ answer r. r ≡ flat (told answer) };
 
-pub fn flatten(answer: Answer) -> Flat
-    ensures { result ≡ flat (told answer) }
-{
-    match answer {
-        Answer::Refused(refusal) => {
-            numbers(refusal.number(), REFUSED, 0, 0, 0, refusal.reason())
+    #[tactic(auto, unfolding(crate::specs::Flat::flat))]
+    fn from(answer: Result<Answer, Refusal>) -> Flat {
+        let none = Flat::default();
+        match answer {
+            Err(refusal) => Flat {
+                refusal: refusal.number(),
+                kind: REFUSED,
+                reason: refusal.reason(),
+                ..none
+            },
+            Ok(Answer::Done) => Flat { kind: DONE, ..none },
+            Ok(Answer::None) => Flat { kind: NONE, ..none },
+            Ok(Answer::Closed { asid, gpa }) => Flat {
+                kind: CLOSED,
+                asid,
+                gpa,
+                ..none
+            },
+            Ok(Answer::Opened) => Flat {
+                kind: OPENED,
+                ..none
+            },
+            Ok(Answer::Already) => Flat {
+                kind: ALREADY,
+                ..none
+            },
+            Ok(Answer::Unfixed(owner)) => Flat {
+                kind: UNFIXED,
+                asid: owner,
+                ..none
+            },
+            Ok(Answer::Word(value)) => Flat {
+                kind: WORD,
+                value,
+                ..none
+            },
+            Ok(Answer::Count(value)) => Flat {
+                kind: COUNT,
+                value,
+                ..none
+            },
         }
-        Answer::Done => numbers(0, DONE, 0, 0, 0, 0),
-        Answer::None => numbers(0, NONE, 0, 0, 0, 0),
-        Answer::Closed { asid, gpa } => numbers(0, CLOSED, asid, gpa, 0, 0),
-        Answer::Opened => numbers(0, OPENED, 0, 0, 0, 0),
-        Answer::Already => numbers(0, ALREADY, 0, 0, 0, 0),
-        Answer::Unfixed(owner) => numbers(0, UNFIXED, owner, 0, 0, 0),
-        Answer::Word(word) => numbers(0, WORD, 0, 0, word, 0),
-        Answer::Count(places) => numbers(0, COUNT, 0, 0, places, 0),
     }
 }

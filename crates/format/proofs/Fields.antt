@@ -6,9 +6,9 @@ use mathlib.Core.Path.{◌≡◌, refl, ap, ◌∙◌}
 use mathlib.Core.List.{List, [], ◌∷◌, ◌++◌, map}
 use mathlib.Core.Logic.{◌≢◌, ⊎_elim}
 use Prim.Native.Char.{code}
-use Prim.Native.Nat.{ℕ, suc, ◌≤◌, ◌<◌}
+use Prim.Native.Nat.{ℕ, ◌≤◌}
 use native.Mathlib.Omega.{arith}
-use lib.ListN.{length, drop}
+use lib.ListN.{length}
 use borrow.Author.Tests.{ne_eqb}
 use Rattle.words.proofs.ChoiceLaws.{same_or_not, pick_true, pick_false}
 use Rattle.format.specs.Line.{longer, fields}
@@ -54,19 +54,4 @@ fields_one (byte ∷ rest) h =
     let on : length {A = ℕ} (byte ∷ rest) ≤ length {A = ℕ} (byte ∷ up_to (code " ") rest) = rw (up_to_past (code " ") byte rest e) at h in
     let tail : fields rest ≡ rest ∷ [] = fields_one rest (omega arith) in
     rw (fields_byte byte rest e, tail))
-    (same_or_not byte (code " "))
-
--- a space: the field before it, and those after it
-pub fields_more :
-    (bytes : List ℕ) → length (up_to (code " ") bytes) < length bytes
-    → fields bytes ≡ up_to (code " ") bytes ∷ fields (drop (suc (length (up_to (code " ") bytes))) bytes)
-unfolding longer
-fields_more [] h = absurd (omega arith)
-fields_more (byte ∷ rest) h =
-    ⊎_elim
-    (λ e. rw (up_to_here (code " ") byte rest e, e, fields_space rest))
-    (λ e.
-    let on : length {A = ℕ} (byte ∷ up_to (code " ") rest) < length {A = ℕ} (byte ∷ rest) = rw (up_to_past (code " ") byte rest e) at h in
-    let tail : fields rest ≡ up_to (code " ") rest ∷ fields (drop (suc (length (up_to (code " ") rest))) rest) = fields_more rest (omega arith) in
-    rw (fields_byte byte rest e, up_to_past (code " ") byte rest e, tail))
     (same_or_not byte (code " "))

@@ -1,6 +1,5 @@
 -- The laws of the format, which proofs cite instead of opening the definitions, and the proofs of what is claimed of it.
 pub mod AskLaws
-pub mod AskedLaws
 pub mod Cut
 pub mod Digit
 pub mod Digits

@@ -63,20 +63,6 @@ module _ (text : List ℕ) (at : ℕ) where
   line_ends h = up_to_within LF text at h
 
   module _ (h : at < length text) where
-    pub place_past : at < place_after text at
-    place_past =
-        ⊎_elim
-        (λ fed. rw (after_fed fed) (omega arith))
-        (λ last. rw (after_last last) (omega arith))
-        (lt_or_le end (length text))
-
-    pub place_within : place_after text at ≤ length text
-    place_within =
-        ⊎_elim
-        (λ fed. rw (after_fed fed) (omega arith))
-        (λ last. rw (after_last last) (line_ends (omega arith)))
-        (lt_or_le end (length text))
-
     -- the lines from a place on are the line there and those after it
     rest_is : drop (suc end) text ≡ drop (place_after text at) text
     rest_is =

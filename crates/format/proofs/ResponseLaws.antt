@@ -1,45 +1,48 @@
--- What a text prints from a place on, and what it leaves, by the line there and the text after it; and past the end, nothing.
+-- What lines print and what they leave, by the first of them and the others; and past the end of a text, nothing.
 -- Assumes nothing.
 use mathlib.Core.Path.{◌≡◌, refl}
 use mathlib.Core.List.{List, [], ◌∷◌, ◌++◌}
-use Prim.Native.Nat.{ℕ, ◌≤◌, ◌<◌}
+use Prim.Native.Nat.{ℕ, ◌≤◌}
 use lib.ListN.{length, drop, drop_of_length-le}
 use Rattle.rules.specs.History.{history, finally}
 use Rattle.rules.specs.State.{State}
-use Rattle.format.specs.Line.{Said, says, wrong, said}
-use Rattle.format.specs.Place.{line_at, place_after}
+use Rattle.format.specs.Line.{Said, says, wrong}
 use Rattle.format.specs.Response.{response, following}
 use Rattle.format.specs.Text.{lines, said_by, calls_of, replies, calls, printed, after}
-use Rattle.format.proofs.PlaceLaws.{lines_at}
 
--- ---- the first of some lines
-first_reply :
-    (s : State) (line : Said) (rest : List Said)
-    → replies (line ∷ rest) (history s (calls_of (line ∷ rest))) ≡ response s line ++ replies rest (history (following s line) (calls_of rest))
-unfolding replies calls_of history response following
-first_reply s (says call) rest = refl
-first_reply s wrong rest = refl
+-- what is printed for lines that say so much, and what they leave
+unfoldable pub lines_print : State → List Said → List ℕ
+lines_print s all = replies all (history s (calls_of all))
 
-first_state : (s : State) (line : Said) (rest : List Said) → finally s (calls_of (line ∷ rest)) ≡ finally (following s line) (calls_of rest)
-unfolding calls_of finally following
-first_state s (says call) rest = refl
-first_state s wrong rest = refl
+unfoldable pub lines_leave : State → List Said → State
+lines_leave s all = finally s (calls_of all)
 
--- ---- the line at a place
-module _ (s : State) (text : List ℕ) (at : ℕ) (h : at < length text) where
-  abbrev here : Said
-  here = said (line_at text at)
+module _ (s : State) where
+  pub printed_is : (text : List ℕ) → printed s text ≡ lines_print s (said_by text)
+  unfolding printed calls lines_print
+  printed_is text = refl
 
-  abbrev rest : List ℕ
-  rest = drop (place_after text at) text
+  pub after_is : (text : List ℕ) → after s text ≡ lines_leave s (said_by text)
+  unfolding after calls lines_leave
+  after_is text = refl
 
-  pub printed_at : printed s (drop at text) ≡ response s here ++ printed (following s here) rest
-  unfolding printed calls said_by
-  printed_at = rw (lines_at text at h) (first_reply s here (said_by rest))
+  pub no_line_prints : lines_print s [] ≡ []
+  unfolding lines_print replies
+  no_line_prints = refl
 
-  pub after_at : after s (drop at text) ≡ after (following s here) rest
-  unfolding after calls said_by
-  after_at = rw (lines_at text at h) (first_state s here (said_by rest))
+  pub no_line_leaves : lines_leave s [] ≡ s
+  unfolding lines_leave calls_of finally
+  no_line_leaves = refl
+
+  pub first_prints : (line : Said) (rest : List Said) → lines_print s (line ∷ rest) ≡ response s line ++ lines_print (following s line) rest
+  unfolding lines_print replies calls_of history response following
+  first_prints (says call) rest = refl
+  first_prints wrong rest = refl
+
+  pub first_leaves : (line : Said) (rest : List Said) → lines_leave s (line ∷ rest) ≡ lines_leave (following s line) rest
+  unfolding lines_leave calls_of finally following
+  first_leaves (says call) rest = refl
+  first_leaves wrong rest = refl
 
 -- ---- past the end
 module _ (s : State) (text : List ℕ) (at : ℕ) (h : length text ≤ at) where

@@ -4,10 +4,9 @@
 use mathlib.Core.Path.{◌≡◌, refl, ap, ◌∙◌}
 use mathlib.Core.List.{List, [], ◌∷◌, ◌++◌}
 use mathlib.Core.Logic.{◌≢◌, ⊎_elim}
-use Prim.Native.Nat.{ℕ, suc, ◌+◌, ◌-◌, ◌≤◌, ◌<◌}
+use Prim.Native.Nat.{ℕ, ◌+◌, ◌≤◌}
 use native.Mathlib.Omega.{arith}
-use lib.ListN.{length, take, drop, get_or, length-drop, drop_of_length-le}
-use lib.Seq.{drop-cons}
+use lib.ListN.{length, take, drop, length-drop}
 use borrow.Author.Tests.{eq-eqb, ne_eqb}
 use Rattle.words.proofs.ChoiceLaws.{same_or_not, pick_true, pick_false}
 use Rattle.format.specs.Place.{up_to}
@@ -43,25 +42,6 @@ module _ (mark : ℕ) where
   up_to_take (byte ∷ rest) =
       ⊎_elim (λ e. rw (up_to_here byte rest e)) (λ e. rw (up_to_past byte rest e, up_to_take rest)) (same_or_not byte mark)
 
-  -- ---- from a place on: a mark there, another byte there, and no byte there
-  module _ (bytes : List ℕ) (at : ℕ) where
-    pub up_to_mark_at : at < length bytes → get_or bytes at 0 ≡ mark → length (up_to mark (drop at bytes)) ≡ 0
-    up_to_mark_at h e = rw (drop-cons bytes at 0 h, up_to_here _ (drop (suc at) bytes) e)
-
-    pub up_to_byte_at :
-        at < length bytes → get_or bytes at 0 ≢ mark
-        → length (up_to mark (drop at bytes)) ≡ suc (length (up_to mark (drop (at + 1) bytes)))
-    up_to_byte_at h e =
-        let more : at + 1 ≡ suc at = omega arith in
-        rw (more, drop-cons bytes at 0 h, up_to_past _ (drop (suc at) bytes) e)
-
-    pub up_to_end_at : length bytes ≤ at → length (up_to mark (drop at bytes)) ≡ 0
-    up_to_end_at h = rw (drop_of_length-le bytes h, up_to_none)
-
-    pub up_to_within : at ≤ length bytes → at + length (up_to mark (drop at bytes)) ≤ length bytes
-    up_to_within h = let short = rw (length-drop at bytes) at (up_to_short (drop at bytes)) in omega arith
-
-    -- the part from the place to where the mark is
-    pub up_to_part :
-        (end : ℕ) → end ≡ at + length (up_to mark (drop at bytes)) → take (end - at) (drop at bytes) ≡ up_to mark (drop at bytes)
-    up_to_part end e = let n : end - at ≡ length (up_to mark (drop at bytes)) = omega arith in rw n (up_to_take (drop at bytes))
+  -- from a place on
+  pub up_to_within : (bytes : List ℕ) (at : ℕ) → at ≤ length bytes → at + length (up_to mark (drop at bytes)) ≤ length bytes
+  up_to_within bytes at h = let short = rw (length-drop at bytes) at (up_to_short (drop at bytes)) in omega arith

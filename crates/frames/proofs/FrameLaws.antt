@@ -1,21 +1,18 @@
 -- Frames of memory: which words a change to a frame gives and which it leaves, for every frame and every index. The crates above cite
 -- these laws, and need not open the definitions. Each holds because a frame's words are a run of memory, and two frames' runs are apart.
 -- Assumes nothing.
-use mathlib.Core.Path.{◌≡◌, refl, sym, ◌∙◌}
-use mathlib.Core.List.{List, [], ◌∷◌, append_assoc}
-use mathlib.Core.Logic.{◌≢◌, ⊎_elim}
-use Prim.Native.Nat.{ℕ, suc, ◌+◌, ◌-◌, ◌*◌, ◌≤◌, ◌<◌}
-use native.Mathlib.Omega.{arith}
-use lib.ListN.{length, get_or, set, take, drop, length-set, length-drop, length-take, length-replicate, get_or-replicate, get_or-eq_default}
-use lib.Seq.{paste, sets, sets-eq, get_or-set_same, get_or-set_other, get_or-take, get_or-drop, length-paste, take_all}
-use borrow.Author.Tests.{lt-ltb, le-ltb, eq-eqb, ne_eqb}
-use borrow.Rule.Slice.PartMut.{put_mid, Post-is}
+use Rattle.std.proofs.Common.{◌≡◌, refl, sym, ◌∙◌, List, [], ◌∷◌, ◌≢◌, ⊎_elim, ℕ, suc, ◌+◌, ◌-◌, ◌*◌, ◌≤◌, ◌<◌, arith, length, get_or, set, take, drop, length-set, length-drop, length-take, get_or-set_same, get_or-set_other, get_or-take, get_or-drop, lt-ltb, le-ltb, eq-eqb, ne_eqb}
+use Rattle.std.proofs.lemmas.List.{length-replicate, get_or-replicate, get_or_past, take_all}
+use Rattle.std.proofs.Math.Seq.{paste}
+use Rattle.std.proofs.lemmas.List.Edits.{sets, sets-eq, length-paste}
+use borrow.Rule.Slice.PartMut.{put_mid}
+use Rattle.std.proofs.lemmas.Slice.{put_mid-paste}
 use Rattle.words.specs.Choice.{◌and◌}
-use Rattle.words.specs.Run.{copied, differing}
+use Rattle.words.specs.Run.{differing}
 use Rattle.words.proofs.ChoiceLaws.{lt_or_le, same_or_not, pick_true, pick_false, and_not}
 use Rattle.words.proofs.ChoiceLaws.{bounds_kept, first_not, second_not, bounds_either}
 use Rattle.words.proofs.CompareLaws.{differing_most, none_differ}
-use Rattle.words.proofs.RunLaws.{paste_there, paste_before, paste_after, copied_whole}
+use Rattle.words.proofs.RunLaws.{paste_there, paste_before, paste_after}
 use Rattle.frames.specs.Frame.{frame_count, is_framed, word_in, frame_in, zeros, put_word, put_frame, differing_in}
 
 -- a frame that memory has is a whole run of it
@@ -58,8 +55,13 @@ module _ (m : List ℕ) (f : ℕ) where
   frame_word i h =
       ⊎_elim
       (λ l. rw (part_is h) (get_or-take 512 (drop (512 * f) m) i 0 l ∙ get_or-drop (512 * f) m i 0) ∙ sym (word_is m f i h l))
-      (λ l. get_or-eq_default (frame_in m f) 0 (rw (frame_long h) l) ∙ sym (word_past m f i l))
+      (λ l. get_or_past (frame_in m f) i 0 (rw (frame_long h) l) ∙ sym (word_past m f i l))
       (lt_or_le i 512)
+
+  -- also where memory does not have it
+  pub word_of_part : (i : ℕ) → get_or (frame_in m f) i 0 ≡ word_in m f i
+  word_of_part i =
+      ⊎_elim (frame_word i) (λ (h : frame_count m ≤ f). rw (part_outside h) (sym (word_outside m f i h))) (lt_or_le f (frame_count m))
 
 -- the word of a frame in two memories of one length
 unchanged :
@@ -165,7 +167,7 @@ module _ (m : List ℕ) (f : ℕ) (run : List ℕ) where
       ⊎_elim
       (λ l. word_is (put_frame m f run) f i (rw count_put_frame h) l
       ∙ rw (frame_put h e) (paste_there m (512 * f) run 512 (frame_whole m f h) (omega arith) i l))
-      (λ l. word_past (put_frame m f run) f i l ∙ sym (get_or-eq_default run 0 (omega arith)))
+      (λ l. word_past (put_frame m f run) f i l ∙ sym (get_or_past run i 0 (omega arith)))
       (lt_or_le i 512)
 
   pub word_frame_other : (g i : ℕ) → g ≢ f → word_in (put_frame m f run) g i ≡ word_in m g i
@@ -185,7 +187,7 @@ length_zeros = length-replicate {A = ℕ} 512 0
 pub zeros_at : (i : ℕ) → get_or zeros i 0 ≡ 0
 unfolding zeros
 zeros_at i =
-    ⊎_elim (λ l. get_or-replicate 512 i 0 0 l) (λ l. get_or-eq_default zeros 0 {n = i} l) (lt_or_le i 512)
+    ⊎_elim (λ l. get_or-replicate 512 i 0 0 l) (λ l. get_or_past zeros i 0 l) (lt_or_le i 512)
 
 pub word_zeroed : (m : List ℕ) (f i : ℕ) → word_in (put_frame m f zeros) f i ≡ 0
 word_zeroed m f i =
@@ -200,24 +202,17 @@ word_copied m f g i h k = word_frame_same m g (frame_in m f) i k (frame_long m f
 pub copied_outside : (m : List ℕ) (f g : ℕ) → frame_count m ≤ f → put_frame m g (frame_in m f) ≡ m
 copied_outside m f g h = frame_unlike m g (frame_in m f) (λ e. absurd (omega (arith, frame_had m f e)))
 
--- a frame that is lent, and one that comes back as `run`
-module _ (m : List ℕ) (f : ℕ) where
-  pub lent_frame : f < frame_count m → take (512 * f + 512 - 512 * f) (drop (512 * f) m) ≡ frame_in m f
-  lent_frame h = let all : 512 * f + 512 - 512 * f ≡ 512 = omega arith in rw (all, part_is m f h)
+-- a frame that is lent from where its words stand, and one that comes back as `run`
+module _ (m : List ℕ) (f s e : ℕ) (had : f < frame_count m) (start : s ≡ 512 * f) (end : e ≡ 512 * f + 512) where
+  pub lent_frame : take (e - s) (drop s m) ≡ frame_in m f
+  lent_frame =
+      let all : e - s ≡ 512 = omega arith in
+      rw (all, start, part_is m f had)
 
-  pub frame_back :
-      (run : List ℕ) → f < frame_count m → length run ≡ 512 → put_mid (512 * f) (512 * f + 512 - 512 * f) m run ≡ put_frame m f run
-  frame_back run h e =
-      let behind = Post-is (512 * f) (512 * f + 512) m (omega arith) in
-      rw (frame_put m f run h e, behind, take_all 512 run (omega arith), append_assoc)
-
-  -- 512 words laid over it
-  pub frame_laid :
-      (run last : List ℕ) → f < frame_count m → length run ≡ 512
-      → last ≡ copied (take (512 * f + 512 - 512 * f) (drop (512 * f) m)) run
-      → put_mid (512 * f) (512 * f + 512 - 512 * f) m last ≡ put_frame m f run
-  frame_laid run last h e laid =
-      rw (laid, lent_frame h, copied_whole (frame_in m f) run (frame_long m f h ∙ sym e)) (frame_back run h e)
+  pub frame_back : (run back : List ℕ) → length run ≡ 512 → back ≡ run → put_mid s (e - s) m back ≡ put_frame m f run
+  frame_back run back long is =
+      let all : e - s ≡ 512 = omega arith in
+      put_mid-paste s (e - s) m back run 512 is (omega arith) (sym long) ∙ rw start (sym (frame_put m f run had long))
 
 -- two frames compared
 module _ (m : List ℕ) (f g : ℕ) where

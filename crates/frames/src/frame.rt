@@ -1,8 +1,11 @@
 // Frames of memory, each a run of 512 words. In a frame that memory does not have whole, and at an index above 511, a word reads as
 // zero and a change changes nothing.
-ghost use Rattle.std.specs.Prelude.{◌≡◌};
+#![tactic(auto, unfolding(crate::specs::Frame::frame_count, crate::specs::Frame::is_framed))]
+
+ghost use Rattle.std.specs.Prelude.{◌≡◌, ◌+◌, ◌*◌, ◌<◌, ◌≤◌, length};
 ghost use Rattle.frames.specs.Frame.{frame_count, is_framed, word_in, frame_in, zeros, put_word, put_frame, differing_in};
 
+use std::ops::Range;
 use words::{compare, run};
 
 // How many whole frames memory has.
@@ -19,37 +22,41 @@ pub fn is_whole(memory: &[u64]) -> bool
     memory.len() % 512 == 0
 }
 
-// A word of a frame.
-pub fn word(memory: &[u64], frame: usize, index: usize) -> u64
-    ensures { result ≡ word_in memory.now frame index }
+// Where in memory the words of a frame stand.
+fn range(memory: &[u64], frame: usize) -> Range<usize>
+    requires { frame < frame_count memory.now }
+    ensures start { result.start ≡ 512 * frame }
+    ensures end { result.end ≡ 512 * frame + 512 }
+    ensures inside { result.end ≤ length memory.now }
 {
-    if frame < memory.len() / 512 {
-        if index < 512 {
-            return memory[512 * frame + index];
-        }
-    }
-    0
+    let start = 512 * frame;
+    start..start + 512
 }
 
 // The words of a frame, where they stand: a part of memory, which is empty where memory does not have the frame.
 pub fn part(memory: &[u64], frame: usize) -> &[u64]
     ensures { result.now ≡ frame_in memory.now frame }
 {
-    if frame < memory.len() / 512 {
-        let start = 512 * frame;
-        return &memory[start..start + 512];
+    if frame < count(memory) {
+        let words = range(memory, frame);
+        return &memory[words];
     }
     &memory[..0]
+}
+
+// A word of a frame.
+pub fn word(memory: &[u64], frame: usize, index: usize) -> u64
+    ensures { result ≡ word_in memory.now frame index }
+{
+    part(memory, frame).get(index).copied().unwrap_or(0)
 }
 
 // A word of a frame becomes `value`.
 pub fn put_word(memory: &mut [u64], frame: usize, index: usize, value: u64)
     ensures { memory.new ≡ put_word memory.old frame index value }
 {
-    if frame < memory.len() / 512 {
-        if index < 512 {
-            memory[512 * frame + index] = value;
-        }
+    if frame < count(memory) && index < 512 {
+        memory[512 * frame + index] = value;
     }
 }
 
@@ -57,57 +64,47 @@ pub fn put_word(memory: &mut [u64], frame: usize, index: usize, value: u64)
 pub fn zero(memory: &mut [u64], frame: usize)
     ensures { memory.new ≡ put_frame memory.old frame zeros }
 {
-    if frame < memory.len() / 512 {
-        let start = 512 * frame;
-        let end = start + 512;
-        run::zero(&mut memory[start..end]);
+    if frame < count(memory) {
+        let words = range(memory, frame);
+        run::zero(&mut memory[words]);
     }
 }
 
-// The words of a frame become `words`, which must be 512: any other run changes nothing. They go by way of a local array, so that the copy
-// compiles to one memmove.
+// The words of a frame become `words`, which must be 512: any other run changes nothing. By way of a local array this is one memmove: of two
+// slices the compiler is not told that they are apart, and it adds a test for that and two loops.
 pub fn put(memory: &mut [u64], frame: usize, words: &[u64])
     ensures { memory.new ≡ put_frame memory.old frame words.now }
 {
-    if frame < memory.len() / 512 {
-        if words.len() == 512 {
-            let mut held = [0u64; 512];
-            run::copy(&mut held, words);
-            let start = 512 * frame;
-            run::copy(&mut memory[start..start + 512], &held);
-        }
+    if frame < count(memory) && words.len() == 512 {
+        let range = range(memory, frame);
+        let mut held = [0; 512];
+        held.copy_from_slice(words);
+        memory[range].copy_from_slice(&held);
     }
 }
 
-// The words of frame `from` stand in frame `to` too, by way of a local array as in `put`.
+// The words of frame `from` stand in frame `to` too. By way of a local array, as in `put`: with `copy_within` it takes 91 ns, and so 48.
 pub fn copy(memory: &mut [u64], from: usize, to: usize)
     ensures { memory.new ≡ put_frame memory.old to (frame_in memory.old from) }
 {
-    if from < memory.len() / 512 {
-        if to < memory.len() / 512 {
-            let mut held = [0u64; 512];
-            let from_start = 512 * from;
-            let from_end = from_start + 512;
-            run::copy(&mut held, &memory[from_start..from_end]);
-            let to_start = 512 * to;
-            let to_end = to_start + 512;
-            run::copy(&mut memory[to_start..to_end], &held);
-        }
+    if from < count(memory) && to < count(memory) {
+        let from = range(memory, from);
+        let to = range(memory, to);
+        let mut held = [0; 512];
+        held.copy_from_slice(&memory[from]);
+        memory[to].copy_from_slice(&held);
     }
 }
 
 // How many words of two frames differ; none where memory has not both.
+#[inline(always)]
 pub fn differing(memory: &[u64], one: usize, two: usize) -> u64
     ensures { result ≡ differing_in memory.now one two }
 {
-    if one < memory.len() / 512 {
-        if two < memory.len() / 512 {
-            let a = 512 * one;
-            let b = 512 * two;
-            let a_end = a + 512;
-            let b_end = b + 512;
-            return compare::differing(&memory[a..a_end], &memory[b..b_end]);
-        }
+    if one < count(memory) && two < count(memory) {
+        let one = range(memory, one);
+        let two = range(memory, two);
+        return compare::differing(&memory[one], &memory[two]);
     }
     0
 }

@@ -1,40 +1,63 @@
--- Fields taken one by one and their numbers put into seven places: what is left after a field, the numbers with one more, and all seven.
+-- Fields taken one by one: what `split` gives are the fields of the format, and those that are left are the next one and the rest.
 -- Assumes nothing.
-use mathlib.Core.Path.{◌≡◌, ap, ◌∙◌}
-use mathlib.Core.List.{List, [], ◌∷◌, ◌++◌}
+use mathlib.Core.Path.{◌≡◌, refl, sym, ap, ◌∙◌}
+use mathlib.Core.Bool.{Bool, true, false}
+use mathlib.Core.List.{List, [], ◌∷◌}
 use Prim.Native.Char.{code}
 use Prim.Native.Nat.{ℕ, suc, ◌+◌, ◌<◌}
-use native.Mathlib.Omega.{arith}
-use lib.ListN.{length, take, drop, get_or, set, drop_of_length-le}
-use lib.Seq.{drop-cons, drop-drop, take-suc-set}
-use Rattle.format.specs.Place.{up_to}
+use lib.Dec.{eqb}
+use lib.ListN.{length, drop, get_or}
+use lib.Seq.{drop-cons}
+use native.Mathlib.Numerals.{add-one}
+use Rattle.std.specs.Prelude.{Some, None, Result, Ok, Err, OnOk, OnErr}
+use Rattle.std.specs.List.{slice_split, onto_first}
+use Rattle.std.specs.Result.{result_ok}
+use Rattle.words.specs.Choice.{pick}
+use Rattle.format.specs.Number.{is_number, value}
+use Rattle.format.specs.Line.{longer, fields}
+use Rattle.numbers.specs.Numeral.{number_of}
 
--- what is left after the field at a place and the space behind it
-pub after_field :
-    (rest : List ℕ) (at end : ℕ) → end ≡ at + length (up_to (code " ") (drop at rest))
-    → drop (suc (length (up_to (code " ") (drop at rest)))) (drop at rest) ≡ drop (end + 1) rest
-after_field rest at end e =
-    let n : at + suc (length (up_to (code " ") (drop at rest))) ≡ end + 1 = omega arith in
-    drop-drop _ at rest ∙ ap (λ (k : ℕ). drop k rest) n
+longer_is : (byte : ℕ) (parts : List (List ℕ)) → longer byte parts ≡ onto_first byte parts
+unfolding longer
+longer_is byte [] = refl
+longer_is byte (first ∷ others) = refl
 
--- the numbers taken so far, with one more
-pub one_more :
-    (values : List ℕ) (count v : ℕ) → count < length values → take (count + 1) (set values count v) ≡ take count values ++ (v ∷ [])
-one_more values count v h = let n : count + 1 ≡ suc count = omega arith in rw n (take-suc-set values count v h)
+pub fields_are : (rest : List ℕ) → fields rest ≡ slice_split (λ b. eqb b (code " ")) rest
+unfolding fields pick
+fields_are [] = refl
+fields_are (byte ∷ rest) = rw (longer_is byte (fields rest), fields_are rest)
 
--- seven places, one by one
-pub seven :
-    (values : List ℕ) → length values ≡ 7
-    → values
-    ≡ get_or values 0 0 ∷ get_or values 1 0 ∷ get_or values 2 0 ∷ get_or values 3 0 ∷ get_or values 4 0 ∷ get_or values 5 0 ∷ get_or values 6 0 ∷ []
-seven values h =
-    let from : (i : ℕ) (tail : List ℕ) → i < 7 → drop (suc i) values ≡ tail → drop i values ≡ get_or values i 0 ∷ tail =
-    λ i tail l e. drop-cons values i 0 (rw h l) ∙ ap (λ (r : List ℕ). get_or values i 0 ∷ r) e in
-    let none : drop 7 values ≡ [] = drop_of_length-le values {i = 7} (omega arith) in
-    from 0 _ (omega arith)
-    (from 1 _ (omega arith)
-    (from 2 _ (omega arith)
-    (from 3 _ (omega arith)
-    (from 4 _ (omega arith)
-    (from 5 _ (omega arith)
-    (from 6 [] (omega arith) none))))))
+-- the field at a place, and those after it
+pub field_at :
+    (all : List (List ℕ)) (n : ℕ) (field : List ℕ) → (n < length all) × (field ≡ get_or all n field)
+    → drop n all ≡ field ∷ drop (n + 1) all
+field_at all n field h =
+    rw add-one (drop-cons all n field h.0 ∙ ap (λ f. f ∷ drop (suc n) all) (sym h.1))
+
+-- what the code's number tells of its field: whether it is a number, and its value
+told : (t : Bool) (n m : ℕ) → pick t (Some n) None ≡ Some m → (t ≡ true) × (n ≡ m)
+unfolding pick
+told true n m e = (refl, cc)
+told false n m e = (cc, cc)
+
+untold : (t : Bool) (n : ℕ) → pick t (Some n) None ≡ None → t ≡ false
+unfolding pick
+untold true n e = cc
+untold false n e = refl
+
+pub number_told : (field : List ℕ) (n : ℕ) → number_of field ≡ Some n → (is_number field ≡ true) × (value field ≡ n)
+unfolding number_of
+number_told field n e = told (is_number field) (value field) n e
+
+pub no_number_told : (field : List ℕ) → number_of field ≡ None → is_number field ≡ false
+unfolding number_of
+no_number_told field e = untold (is_number field) (value field) e
+
+-- what a push did that went through, and one that did not
+pub pushed : {E P : Type 0} (r : Result (Unit {0}) E) (u : Unit {0}) → result_ok r ≡ Some u → OnOk r P → P
+pushed (Ok x) u e h = h
+pushed (Err x) u e h = cc
+
+pub not_pushed : {E P : Type 0} (r : Result (Unit {0}) E) → result_ok r ≡ None → OnErr r P → P
+not_pushed (Ok x) e h = cc
+not_pushed (Err x) e h = h

@@ -1,33 +1,48 @@
-// The script reader keeps the text and its place in it together. Each function here takes it apart or makes it, and leaves the work to
-// `line_at`, which has a plain slice and a number.
-ghost use Rattle.std.specs.Prelude.{◌≡◌};
-ghost use Rattle.lines.specs.Read.{IsLineAt};
+// The script reader keeps the text and its place in it together. It is thin: `line_at`, which has a plain slice and a number, does the work.
+ghost use Rattle.std.specs.Prelude.{◌≡◌, drop};
+ghost use Rattle.format.specs.Text.{said_by};
+ghost use Rattle.lines.specs.Read.{meant, left};
 
-use crate::line::{Line, line_at};
+use crate::line::line_at;
+use monitor::Call;
 
-#[derive(Clone, Copy)]
+// Its items are what the lines say, in their order: a call, or none, where a line is wrong.
+#[derive(Drop)]
 pub struct Reader<'a> {
-    pub text: &'a [u8],
-    pub at: usize,
+    text: &'a [u8],
+    at: usize,
 }
 
-// A reader at a place of a text.
-pub fn place<'a>(text: &'a [u8], at: usize) -> Reader<'a>
-    ensures { (result.text ≡ text.entry) × (result.at ≡ at) }
-{
-    Reader { text, at }
+impl<'a> Reader<'a> {
+    pub fn at(text: &'a [u8], at: usize) -> Reader<'a>
+        ensures { left result ≡ said_by (drop at text.now) }
+    {
+        Reader { text, at }
+    }
+
+    pub fn new(text: &'a [u8]) -> Reader<'a>
+        ensures { left result ≡ said_by text.now }
+    {
+        Reader::at(text, 0)
+    }
 }
 
-// The line at the reader's place.
-pub fn next<'a>(reader: Reader<'a>) -> Line
-    ensures { IsLineAt reader.entry.text.now reader.entry.at result }
-{
-    line_at(reader.text, reader.at)
-}
+impl<'a> Iterator for Reader<'a> {
+    ghost use Rattle.std.specs.Iterator.{YieldsFirstBy, item_count};
 
-// The line at a place of a text, through a reader. Callers need no walk.
-pub fn next_line(text: &[u8], at: usize) -> Line
-    ensures { IsLineAt text.now at result }
-{
-    next(place(text, at))
+    type Item = Option<Call>;
+
+    ghost next_gives = { YieldsFirstBy meant left };
+
+    ghost remaining = { item_count left };
+
+    #[tactic(auto, using(crate::proofs::Left::lines_left))]
+    fn next(&mut self) -> Option<Option<Call>> {
+        if self.at >= self.text.len() {
+            return None;
+        }
+        let line = line_at(self.text, self.at);
+        self.at = line.next;
+        Some(line.said)
+    }
 }

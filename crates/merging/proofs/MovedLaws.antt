@@ -7,7 +7,7 @@ use mathlib.Core.Logic.{⊎_elim}
 use Prim.Native.Nat.{ℕ}
 use Rattle.words.proofs.ChoiceLaws.{true_or_false, pick_false}
 use Rattle.entries.specs.declared.entry.Entry.{Entry}
-use Rattle.entries.specs.declared.entry.Decoded.TheVariants.{Good}
+use Rattle.std.specs.Prelude.{Ok}
 use Rattle.entries.specs.declared.leaf.LeafWord.{LeafWord}
 use Rattle.entries.specs.declared.leaf.LeafWord.TheVariants.{Absent, Present, Misshapen}
 use Rattle.entries.proofs.Tells.{moved_is}
@@ -19,7 +19,7 @@ use Rattle.rules.specs.State.{State, entry_at}
 use Rattle.rules.proofs.StateLaws.{entry_tells}
 use Rattle.merging.specs.Moved.{moving}
 
-module _ (s : State) (frame1 : ℕ) (one : Entry) (frame2 asid : ℕ) (here : entry_at s frame1 ≡ Good one) where
+module _ (s : State) (frame1 : ℕ) (one : Entry) (frame2 asid : ℕ) (here : entry_at s frame1 ≡ Ok one) where
   moving_is : one.fixed ≡ true → (gpa : ℕ) → unmerging s frame1 one frame2 asid gpa ≡ moving s frame1 one frame2 asid gpa
   unfolding unmerging moving
   moving_is fixed gpa = rw (moved_is _ one asid gpa (entry_tells s frame1 here) fixed)

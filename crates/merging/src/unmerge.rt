@@ -1,21 +1,17 @@
 // PUNMERGE: a guest moves out of a fixed page.
-ghost use Rattle.std.specs.Prelude.{◌≡◌, ℕ, eqb};
-ghost use Rattle.words.specs.Choice.{◌and◌};
-ghost use Rattle.entries.specs.Entry.{SHARED, MERGEABLE, frame_of};
-ghost use Rattle.entries.specs.declared.entry.Entry.{Entry};
-ghost use Rattle.rules.specs.Answers.{done, Verdict, grant, settle, unless};
-ghost use Rattle.rules.specs.Leaves.{consulted, placed};
+ghost use Rattle.std.specs.Prelude.{◌≡◌};
+ghost use Rattle.entries.specs.Entry.{frame_of};
+ghost use Rattle.rules.specs.Answers.{done, grant, settle};
 ghost use Rattle.rules.specs.Merging.{punmerge};
-ghost use Rattle.rules.specs.Refusals.{TYPE, NOT_FIXED};
 ghost use Rattle.rules.specs.State.{state};
 ghost use Rattle.checks.specs.Answer.{gave};
-ghost use Rattle.checks.specs.Passed.{with_place};
+ghost use Rattle.checks.specs.Passed.{passed};
 ghost use Rattle.merging.specs.Moved.{moving};
 
 use checks::answer::Answer;
 use checks::begin::begin_unmerge;
-use checks::gate::Gate;
-use checks::passed::{BothNamed, Place};
+use checks::refusal::Refusal;
+use checks::state::State;
 use checks::{leaves, named};
 use entries::entry::{Entry, frame_of};
 use frames::frame;
@@ -30,61 +26,37 @@ pub fn punmerge(
     hpa1: u64,
     hpa2: u64,
     asid: u64,
-) -> Answer
+) -> Result<Answer, Refusal>
     ensures { gave result table.new memory.new
         ≡ punmerge (state table.old memory.old) caller hpa1 hpa2 asid }
 {
-    match check_unmerge(table, memory, caller, hpa1, hpa2, asid) {
-        Place::Refused(refusal) => Answer::Refused(refusal),
-        Place::Good(one, gpa) => {
-            unmerge(
-                table,
-                memory,
-                frame_of(hpa1),
-                one,
-                frame_of(hpa2),
-                asid,
-                gpa,
-            );
-            Answer::Done
-        }
-    }
+    let (one, gpa) = check_unmerge(&State::new(table, memory), caller, hpa1, hpa2, asid)?;
+    let frame1 = frame_of(hpa1);
+    let frame2 = frame_of(hpa2);
+    unmerge(table, memory, frame1, one, frame2, asid, gpa);
+    Ok(Answer::Done)
 }
 
+// Entry 1, and the guest's place in its page.
 fn check_unmerge(
-    table: &[u64],
-    memory: &[u64],
+    state: &State<'_>,
     caller: u64,
     hpa1: u64,
     hpa2: u64,
     asid: u64,
-) -> Place
-    ensures { punmerge (state table.now memory.now) caller hpa1 hpa2 asid
-        ≡ settle (state table.now memory.now) (with_place result λ one gpa.
-        grant done (moving (state table.now memory.now) (frame_of hpa1) one (frame_of hpa2) asid gpa)) }
+) -> Result<(Entry, u64), Refusal>
+    ensures { punmerge state.now caller hpa1 hpa2 asid
+        ≡ settle state.now (passed result λ place.
+        grant done (moving state.now (frame_of hpa1) place.0 (frame_of hpa2) asid place.1)) }
 {
-    let begun = begin_unmerge(table, memory, caller, hpa1, hpa2, asid);
-    let first = named::first(table, begun, hpa1);
-    match named::second(table, first, hpa2) {
-        BothNamed::Refused(refusal) => Place::Refused(refusal),
-        BothNamed::Good(one, two) => guest_place(table, memory, one, two, asid),
-    }
+    begin_unmerge(state, caller, hpa1, hpa2, asid)?;
+    let (one, two) = named::both(state, hpa1, hpa2)?;
+    unmerge_needs_met(one, two)?;
+    let gpa = leaves::placed(leaves::consulted(state, one, asid))?;
+    Ok((one, gpa))
 }
 
-// The guest's place in the page of entry 1: 6, 11, 12, 13.
-fn guest_place(table: &[u64], memory: &[u64], one: Entry, two: Entry, asid: u64) -> Place
-    ensures { (rest : Entry → ℕ → Verdict) → with_place result rest
-        ≡ unless (eqb one.kind MERGEABLE and eqb two.kind SHARED) TYPE
-        (unless one.fixed NOT_FIXED
-        (placed (consulted (state table.now memory.now) one asid) (rest one))) }
-{
-    let met = unmerge_needs_met(one, two);
-    if let Gate::Shut(refusal) = met {
-        return Place::Refused(refusal);
-    }
-    leaves::placed(one, leaves::consulted(table, memory, one, asid))
-}
-
+// Two slices, of which each changes: a struct of two `&mut` would be made for this one call.
 // Entry 2 is entry 1, moved.
 fn unmerge(
     table: &mut [u64],

@@ -10,7 +10,8 @@ ghost use Rattle.monitor.specs.Call.{called};
 pub use access::transfer::{read, write};
 pub use assignment::{pvalidate, rmpupdate};
 pub use census::census;
-pub use checks::answer::{Answer, Refusal};
+pub use checks::answer::Answer;
+pub use checks::refusal::Refusal;
 pub use fixing::{pfix, punfix};
 pub use merging::{pmerge, punmerge};
 
@@ -39,7 +40,8 @@ pub enum Call {
 
 // Makes the call by its function. `Promised` is the equation: answer, table and memory are those of the rules' `step`. So it is a request
 // of a run (`CallIsRuled` of `requests`), and what is said of runs there, demand 3 among it, is said of this.
-pub fn step(table: &mut [u64], memory: &mut [u64], call: Call) -> Answer
+#[tactic(auto, unfolding(rules::specs::Calls::step))]
+pub fn step(table: &mut [u64], memory: &mut [u64], call: Call) -> Result<Answer, Refusal>
     ensures { Promised (made (called call) (state table.old memory.old)
         (gave result table.new memory.new)) }
 {

@@ -1,71 +1,46 @@
 -- 01, "The calls": "The needed type and flags of each named frame, by instruction, stand in one constant table". This is the table, row
 -- for row. That each row says what its rule says, cell by cell, is shown in proofs/Rows.antt and AccessNeeds.antt.
-use Rattle.std.specs.Prelude.{Bool, true, not, List, [], ◌∷◌, ℕ, eqb, get_or}
-use Rattle.words.specs.Choice.{pick}
+use Rattle.std.specs.Prelude.{Bool, true, false, not, Option, None, Some, ℕ, eqb}
 use Rattle.entries.specs.Entry.{SHARED, MERGEABLE, LEAF}
+use Rattle.needs.specs.declared.need.FlagNeed.{FlagNeed}
+use Rattle.needs.specs.declared.need.FlagNeed.TheVariants.{Clear, Set, Either}
 use Rattle.needs.specs.declared.need.Need.{Need}
-use Rattle.needs.specs.declared.need.Row.{Row}
+use Rattle.needs.specs.declared.need.TypeNeed.{TypeNeed}
+use Rattle.needs.specs.declared.need.TypeNeed.TheVariants.{Only, NotLeaf, AsCalled}
+use Rattle.needs.specs.declared.table.Needs.{Needs}
+use Rattle.needs.specs.declared.table.TwoFrames.{TwoFrames}
 
--- a type that is needed is one of the four, or any but LEAF, or the one that the call names, or none: there is no such frame
-abbrev pub NOT_LEAF : ℕ
-NOT_LEAF = 4
+-- What is needed of a named frame: its type, VALIDATED, FIXED. A type is one of the four (`Only`), any but LEAF, or the one that the call
+-- names; a flag must be clear, must be set, or may be either.
+abbrev pub need : TypeNeed → FlagNeed → FlagNeed → Need
+need kind validated fixed = record { kind = kind; validated = validated; fixed = fixed }
 
-abbrev pub AS_CALLED : ℕ
-AS_CALLED = 5
-
-abbrev pub NONE : ℕ
-NONE = 6
-
--- a flag that must be clear, that must be set, and that may be either
-abbrev pub CLEAR : ℕ
-CLEAR = 0
-
-abbrev pub SET : ℕ
-SET = 1
-
-abbrev pub EITHER : ℕ
-EITHER = 2
-
--- type, VALIDATED, FIXED
-abbrev pub need : ℕ → ℕ → ℕ → Need
-need kind validated fixed = record { 0 = kind; 1 = validated; 2 = fixed }
-
--- the second column of an instruction that names one frame
-abbrev pub NO_FRAME : Need
-NO_FRAME = need NONE EITHER EITHER
-
--- the first named frame, the second
-abbrev pub row : Need → Need → Row
-row first second = record { 0 = first; 1 = second }
+-- of an instruction that names two frames: the first, the second
+abbrev pub two : Need → Need → TwoFrames
+two first second = record { first = first; second = second }
 
 -- one row an instruction. READ and WRITE need the flags of a page of a guest alone: a SHARED frame has none.
-unfoldable pub needs_table : List Row
+unfoldable pub needs_table : Needs
 needs_table =
-    -- RMPUPDATE
-    row (need NOT_LEAF EITHER CLEAR) NO_FRAME
-    -- PVALIDATE
-    ∷ row (need AS_CALLED EITHER CLEAR) NO_FRAME
-    -- PFIX
-    ∷ row (need MERGEABLE SET CLEAR) (need LEAF EITHER EITHER)
-    -- PMERGE
-    ∷ row (need MERGEABLE EITHER SET) (need MERGEABLE SET CLEAR)
-    -- PUNMERGE
-    ∷ row (need MERGEABLE EITHER SET) (need SHARED EITHER EITHER)
-    -- PUNFIX
-    ∷ row (need MERGEABLE EITHER SET) NO_FRAME
-    -- READ
-    ∷ row (need AS_CALLED SET EITHER) NO_FRAME
-    -- WRITE
-    ∷ row (need AS_CALLED SET CLEAR) NO_FRAME
-    ∷ []
+    record {
+      rmpupdate = need NotLeaf Either Clear;
+      pvalidate = need AsCalled Either Clear;
+      pfix = two (need (Only MERGEABLE) Set Clear) (need (Only LEAF) Either Either);
+      pmerge = two (need (Only MERGEABLE) Either Set) (need (Only MERGEABLE) Set Clear);
+      punmerge = two (need (Only MERGEABLE) Either Set) (need (Only SHARED) Either Either);
+      punfix = need (Only MERGEABLE) Either Set;
+      read = need AsCalled Set Either;
+      write = need AsCalled Set Clear;
+    }
 
--- the row of an instruction, 0 to 7 in the order of the table
-unfoldable pub needs_of : ℕ → Row
-needs_of instruction = get_or needs_table instruction (row (need 0 0 0) (need 0 0 0))
+-- whether a page's type meets a need, in a call that names the type `called`, or names none; whether a flag does
+unfoldable pub kind_met : TypeNeed → ℕ → Option ℕ → Bool
+kind_met (Only needed) kind called = eqb kind needed
+kind_met NotLeaf kind called = not (eqb kind LEAF)
+kind_met AsCalled kind None = false
+kind_met AsCalled kind (Some called) = eqb kind called
 
--- whether a page's type meets a need, in a call that names the type `called`; whether a flag does
-unfoldable pub kind_met : ℕ → ℕ → ℕ → Bool
-kind_met need kind called = pick (eqb need AS_CALLED) (eqb kind called) (pick (eqb need NOT_LEAF) (not (eqb kind LEAF)) (eqb kind need))
-
-unfoldable pub flag_met : ℕ → Bool → Bool
-flag_met need flag = pick (eqb need CLEAR) (not flag) (pick (eqb need SET) flag true)
+unfoldable pub flag_met : FlagNeed → Bool → Bool
+flag_met Clear flag = not flag
+flag_met Set flag = flag
+flag_met Either flag = true

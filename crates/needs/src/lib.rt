@@ -2,3 +2,4 @@
 #![tactic(auto)]
 
 pub mod need;
+pub mod table;

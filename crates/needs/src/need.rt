@@ -1,67 +1,56 @@
-// What an instruction needs of the frames that it names: a type and flags.
+// What an instruction needs of a frame that it names: a type and flags, and when these are met.
 ghost use Rattle.std.specs.Prelude.{◌≡◌};
 ghost use Rattle.needs.specs.Needs.{kind_met, flag_met};
 
 use entries::entry::LEAF;
 
-// A type that is needed is one of the four, or any but LEAF, or the one that the call names, or none: there is no such frame.
-pub const NOT_LEAF: u64 = 4;
-
-pub const AS_CALLED: u64 = 5;
-
-pub const NONE: u64 = 6;
+// The type that is needed: this one, any but LEAF, or the one that the call names.
+#[derive(Clone, Copy, Debug, PartialEq, Eq)]
+pub enum TypeNeed {
+    Only(u64),
+    NotLeaf,
+    AsCalled,
+}
 
 // A flag that must be clear, that must be set, and that may be either.
-pub const CLEAR: u64 = 0;
+#[derive(Clone, Copy, Debug, PartialEq, Eq)]
+pub enum FlagNeed {
+    Clear,
+    Set,
+    Either,
+}
 
-pub const SET: u64 = 1;
-
-pub const EITHER: u64 = 2;
-
-// What is needed of one frame: its type, VALIDATED, FIXED.
+// What is needed of one frame.
 #[derive(Clone, Copy)]
-pub struct Need(pub u64, pub u64, pub u64);
+pub struct Need {
+    pub kind: TypeNeed,
+    pub validated: FlagNeed,
+    pub fixed: FlagNeed,
+}
 
-// What is needed of the first named frame, and of the second.
-#[derive(Clone, Copy)]
-pub struct Row(pub Need, pub Need);
-
-impl Need {
-    // Whether a page of this type meets the need, in a call that names the type `called`.
-    pub fn kind_met(self, kind: u64, called: u64) -> bool
-        ensures { result ≡ kind_met self.0 kind called }
+impl TypeNeed {
+    // Whether a page of the type `kind` meets the need, in a call that names the type `called`, or names none.
+    #[tactic(auto, unfolding(crate::specs::Needs::kind_met))]
+    pub fn met(self, kind: u64, called: Option<u64>) -> bool
+        ensures { result ≡ kind_met self kind called }
     {
-        let need = self.0;
-        if need == AS_CALLED {
-            return kind == called;
+        match self {
+            TypeNeed::Only(needed) => kind == needed,
+            TypeNeed::NotLeaf => kind != LEAF,
+            TypeNeed::AsCalled => called == Some(kind),
         }
-        if need == NOT_LEAF {
-            return !(kind == LEAF);
-        }
-        kind == need
-    }
-
-    pub fn validated_met(self, validated: bool) -> bool
-        ensures { result ≡ flag_met self.1 validated }
-    {
-        flag_met(self.1, validated)
-    }
-
-    pub fn fixed_met(self, fixed: bool) -> bool
-        ensures { result ≡ flag_met self.2 fixed }
-    {
-        flag_met(self.2, fixed)
     }
 }
 
-fn flag_met(need: u64, flag: bool) -> bool
-    ensures { result ≡ flag_met need flag }
-{
-    if need == CLEAR {
-        return !flag;
+impl FlagNeed {
+    #[tactic(auto, unfolding(crate::specs::Needs::flag_met))]
+    pub fn met(self, flag: bool) -> bool
+        ensures { result ≡ flag_met self flag }
+    {
+        match self {
+            FlagNeed::Clear => !flag,
+            FlagNeed::Set => flag,
+            FlagNeed::Either => true,
+        }
     }
-    if need == SET {
-        return flag;
-    }
-    true
 }

@@ -6,10 +6,14 @@ use mathlib.Core.Logic.{⊎_elim}
 use Prim.Native.Nat.{ℕ, ◌+◌, ◌-◌, ◌≤◌, ◌<◌, min}
 use native.Mathlib.Nat.{add-zero, add_assoc, le_refl}
 use native.Mathlib.Omega.{arith}
-use lib.ListN.{length, take, length-append}
-use lib.Seq.{paste, paste-zero, take-paste, drop-paste, length-paste, take-length, take-append-le, take-append-add, drop-drop}
+use lib.ListN.{length, take, drop, length-append}
+use lib.Seq.{take_all, length-take-le, paste, paste-zero, take-paste, drop-paste, length-paste, take-length, take-append-le, take-append-add, drop-drop}
+use Rattle.std.proofs.lemmas.Slice.{put_mid-paste}
+use borrow.Rule.Slice.PartMut.{put_mid}
 use Rattle.words.proofs.ChoiceLaws.{lt_or_le}
 use Rattle.numbers.specs.Buffer.{Buffer, buffer, fitting, appended}
+use Rattle.numbers.specs.Held.{held, Appends}
+use Rattle.numbers.specs.declared.buffer.Buffer as code
 
 -- n bytes laid after those that are there
 laid : Buffer → List ℕ → ℕ → Buffer
@@ -98,3 +102,33 @@ module _ (b : Buffer) (xs ys : List ℕ) where
   pub append_append : appended (appended b xs) ys ≡ appended b (xs ++ ys)
   append_append =
       ⊎_elim (λ h. append_whole (omega arith)) append_over (lt_or_le (b.filled + length xs) (length b.bytes))
+
+-- a part of the bytes that is written, from the end of what is filled or from the end of the bytes
+module _ (b : Buffer) (xs ys : List ℕ) (at n k : ℕ) (same : n ≡ k) (whole : ys ≡ take n xs) (long : n ≤ length xs) where
+  written : put_mid at k b.bytes ys ≡ paste b.bytes at xs n
+  written =
+      let some = length-take-le n xs long in
+      let all = take_all n (take n xs) (omega arith) in
+      put_mid-paste at k b.bytes ys (take n xs) n whole same (sym some)
+      ∙ ap (λ (zs : List ℕ). take at b.bytes ++ zs ++ drop (at + n) b.bytes) all
+
+  pub appended_written :
+      at ≡ min b.filled (length b.bytes) → n ≡ min (length xs) (length b.bytes - at)
+      → buffer (put_mid at k b.bytes ys) (b.filled + n) ≡ appended b xs
+  unfolding fitting laid
+  appended_written from much =
+      ⊎_elim
+      (λ (h : b.filled < length b.bytes).
+      let here : at ≡ b.filled = omega arith in
+      rw (written, here) (sym (appended_laid b xs n (omega arith))))
+      (λ (h : length b.bytes ≤ b.filled).
+      let none : n ≡ 0 = omega arith in
+      rw (written, none, ← paste-zero b.bytes at xs, add-zero b.filled) (sym (appended_full b xs h)))
+      (lt_or_le b.filled (length b.bytes))
+
+-- what is appended in two goes, to the same bytes, is appended in one
+pub Appends_append : {a b c : code.Buffer} {xs ys : List ℕ} → Appends a xs b → Appends b ys c → Appends a (xs ++ ys) c
+Appends_append {a} {b} {c} {xs} {ys} first second = record {
+  same_reference = second.same_reference ∙ first.same_reference;
+  grown = second.grown ∙ rw first.grown (append_append (held a) xs ys);
+}

@@ -22,6 +22,11 @@ module _ (base n : ℕ) (spelt : List ℕ) (i k d : ℕ) (next : suc k ≡ i) (r
   pub spelt_more : base ≤ n → digits base k (n / base) ++ drop k (set spelt k d) ≡ digits base i n ++ drop i spelt
   spelt_more h = rw (put spelt k d (omega arith), ← next, digits_more base k n h, last, append_assoc)
 
+-- no digit is left to spell where there is no room for one
+pub spelt_full : (base n : ℕ) (spelt : List ℕ) (i : ℕ) → i ≤ 0 → drop i spelt ≡ digits base i n ++ drop i spelt
+unfolding digits
+spelt_full base n spelt i none = let e : i ≡ 0 = omega arith in rw e
+
 -- the end of n bytes, as it is lent
 pub lent_end : (spelt : List ℕ) (at n : ℕ) → length spelt ≡ n → take (n - at) (drop at spelt) ≡ drop at spelt
 lent_end spelt at n long = take_all (n - at) (drop at spelt) (simp length-drop (omega arith))

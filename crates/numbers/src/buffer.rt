@@ -1,30 +1,46 @@
 // Bytes that are filled from the start.
-ghost use Rattle.std.specs.Prelude.{◌≡◌, ◌-◌, min};
-ghost use Rattle.numbers.specs.Buffer.{buffer, appended};
+ghost use Rattle.std.specs.Prelude.{◌≡◌};
+ghost use Rattle.numbers.specs.Buffer.{buffer};
+ghost use Rattle.numbers.specs.Held.{held, lent, Appends};
 
-// Puts `more` after the first `filled` bytes of `bytes`, as much of it as there is room for, and answers how many are filled now.
-pub fn append(bytes: &mut [u8], filled: usize, more: &[u8]) -> usize
-    ensures { buffer bytes.new result ≡ appended (buffer bytes.old filled) more.now }
-{
-    let n = least(more.len(), less(bytes.len(), filled));
-    let mut i = 0;
-    while i < n {
-        bytes[filled + i] = more[i];
-        i += 1;
+// Bytes that are lent, and how many of them are filled.
+#[derive(Drop)]
+pub struct Buffer<'a> {
+    bytes: &'a mut [u8],
+    filled: usize,
+}
+
+impl<'a> Buffer<'a> {
+    // So many of the bytes count as filled.
+    pub fn at(bytes: &'a mut [u8], filled: usize) -> Buffer<'a>
+        ensures same_reference { (lent result).ghost_name ≡ bytes.entry.ghost_name }
+        ensures filled { held result ≡ buffer bytes.old filled }
+    {
+        Buffer { bytes, filled }
     }
-    filled + n
-}
 
-// The lesser of two numbers.
-pub fn least(a: usize, b: usize) -> usize
-    ensures { result ≡ min a b }
-{
-    if a < b { a } else { b }
-}
+    // None of the bytes is filled.
+    pub fn new(bytes: &'a mut [u8]) -> Buffer<'a>
+        ensures same_reference { (lent result).ghost_name ≡ bytes.entry.ghost_name }
+        ensures empty { held result ≡ buffer bytes.old 0 }
+    {
+        Buffer::at(bytes, 0)
+    }
 
-// What is left of `a` less `b`: 0 where `b` is more.
-fn less(a: usize, b: usize) -> usize
-    ensures { result ≡ a - b }
-{
-    if b < a { a - b } else { 0 }
+    pub fn filled(&self) -> usize
+        ensures { result ≡ (held self.now).filled }
+    {
+        self.filled
+    }
+
+    // Puts `more` behind what is there, as much of it as there is room for. Where more counts as filled than there is, there is none.
+    pub fn append(&mut self, more: &[u8])
+        ensures { Appends self.old more.now self.new }
+    {
+        let at = self.filled.min(self.bytes.len());
+        let n = more.len().min(self.bytes.len() - at);
+        let bytes = &mut *self.bytes;
+        bytes[at..at + n].copy_from_slice(&more[..n]);
+        self.filled += n;
+    }
 }

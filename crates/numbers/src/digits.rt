@@ -1,60 +1,57 @@
 // Numbers as they are printed.
-ghost use Rattle.std.specs.Prelude.{◌≡◌, ◌≤◌, ◌<◌, length, drop};
+ghost use Rattle.std.specs.Prelude.{◌≡◌, ◌≤◌, ◌<◌};
 ghost use Rattle.format.specs.Number.{digit, digits, hex, decimal};
-ghost use Rattle.numbers.specs.Buffer.{buffer, appended};
+ghost use Rattle.numbers.specs.Held.{Appends};
 
-use crate::buffer::append;
+use crate::buffer::Buffer;
 
-// Appends a number in hex, with no leading zeros.
-pub fn append_hex(bytes: &mut [u8], filled: usize, n: u64) -> usize
-    ensures { buffer bytes.new result ≡ appended (buffer bytes.old filled) (hex n) }
-{
-    append_digits(bytes, filled, n, 16)
-}
-
-// Appends a number in decimal, with no leading zeros.
-pub fn append_decimal(bytes: &mut [u8], filled: usize, n: u64) -> usize
-    ensures { buffer bytes.new result ≡ appended (buffer bytes.old filled) (decimal n) }
-{
-    append_digits(bytes, filled, n, 10)
-}
-
-// Appends the digits of a number in a base. No word has more than twenty.
-fn append_digits(bytes: &mut [u8], filled: usize, n: u64, base: u64) -> usize
-    requires { (1 < base) × (base ≤ 16) }
-    ensures { buffer bytes.new result ≡ appended (buffer bytes.old filled) (digits base 20 n) }
-{
-    let mut spelt = [0u8; 20];
-    let from = spell(n, base, &mut spelt);
-    append(bytes, filled, &spelt[from..])
-}
-
-// Puts the digits of `n` at the end of `spelt`, as many of the last ones as there is room for, and answers where they begin.
-fn spell(n: u64, base: u64, spelt: &mut [u8]) -> usize
-    requires { (1 < base) × (base ≤ 16) }
-    ensures { (result ≤ length spelt.old) × (drop result spelt.new ≡ digits base (length spelt.old) n) }
-{
-    let mut rest = n;
-    let mut i = spelt.len();
-    while 0 < i {
-        i -= 1;
-        spelt[i] = digit(rest % base);
-        if rest < base {
-            return i;
-        }
-        rest /= base;
+impl Buffer<'_> {
+    // Appends a number in hex, with no leading zeros.
+    #[tactic(auto, unfolding(format::specs::Number::hex))]
+    pub fn append_hex(&mut self, n: u64)
+        ensures { Appends self.old (hex n) self.new }
+    {
+        self.append_digits::<16>(n);
     }
-    0
+
+    // Appends a number in decimal, with no leading zeros.
+    #[tactic(auto, unfolding(format::specs::Number::decimal))]
+    pub fn append_decimal(&mut self, n: u64)
+        ensures { Appends self.old (decimal n) self.new }
+    {
+        self.append_digits::<10>(n);
+    }
+
+    // Spells a number from its last digit on, and appends its digits. No word has more than twenty.
+    // By hand: `write!` promises its text only where it answers `Ok`, and nothing promises that it does.
+    fn append_digits<const BASE: u64>(&mut self, n: u64)
+        requires { (1 < BASE) × (BASE ≤ 16) }
+        ensures { Appends self.old (digits BASE 20 n) self.new }
+    {
+        let mut spelt = [0u8; 20];
+        let mut from = spelt.len();
+        let mut rest = n;
+        for i in (0..spelt.len()).rev() {
+            spelt[i] = digit(rest % BASE);
+            from = i;
+            if rest < BASE {
+                break;
+            }
+            rest /= BASE;
+        }
+        self.append(&spelt[from..]);
+    }
 }
 
 // The digit of a value below 16.
+#[tactic(auto, unfolding(format::specs::Number::digit, words::specs::Choice::pick))]
 fn digit(n: u64) -> u8
     requires { n < 16 }
     ensures { result ≡ digit n }
 {
     if n < 10 {
-        48 + n as u8
+        b'0' + n as u8
     } else {
-        97 + (n - 10) as u8
+        b'a' + (n - 10) as u8
     }
 }

@@ -29,7 +29,7 @@ look_is_read s caller gpa hpa gtype ntype index =
     read_by s caller gpa hpa gtype ntype index (access_settled s reading caller gpa hpa gtype ntype index)
 
 -- with some levels to go, a walk is one level down and then the rest
-walk_down :
+pub walk_down :
     (reads : Pointer → ℕ → Walked ℕ) (leaf_refused : ℕ → Bool) (level page : ℕ) (from : Pointer) → 0 < level
     → walk reads leaf_refused level page from
     ≡ onward (down reads leaf_refused (level - 1) (index_at (level - 1) page) from) λ to. walk reads leaf_refused (level - 1) page to
@@ -85,6 +85,18 @@ module _ (s : State) (at : Virtual) where
   left_stops (suc level) from r stopped = rw stopped
 
   -- a turn of the loop: the table's address through the host's, its entry, and then the rest
+  pub left_by_index :
+      (level : ℕ) (from : Pointer) → 0 < level
+      → left level from
+      ≡ onward (host_half s at.host_root from.address) λ frame.
+      onward (onward (look s at.caller from.address frame.address from.type frame.type (index_at (level - 1) (page_of at.va)))
+      λ w. follow (level - 1) true w)
+      λ to. left (level - 1) to
+  unfolding left down guest_reads always
+  left_by_index level from some =
+      rw (walk_down _ always level _ from some) (by_frame (host_half s at.host_root from.address) _ _ _ _)
+
+  -- and so with the next index on top of what is left of the page's number
   pub left_down :
       (level rest : ℕ) (from : Pointer) → 0 < level → level ≤ 4 → rest ≡ shifted level (page_of at.va)
       → left level from

@@ -1,7 +1,16 @@
--- How the code counts, in columns: named by contracts of private functions alone.
-use Rattle.std.specs.Prelude.{ℕ, ◌+◌, List}
-use Rattle.parity.specs.Odd.{bit_at}
+-- How the code counts: named by contracts of private functions alone.
+use Rattle.std.specs.Prelude.{ℕ, List, ◌==◌}
+use Rattle.words.specs.Choice.{pick}
+use Rattle.parity.specs.Odd.{odd, last_odd}
+use Rattle.parity.specs.declared.Odd.{Odd}
+use Rattle.parity.specs.declared.Odd.TheVariants.{None, One, Several}
 
--- the bits 0 of a column of four rows of four words, which begin at n
-abbrev pub in_column : List ℕ → ℕ → ℕ → ℕ
-in_column words n k = bit_at words (n + k) + bit_at words (n + 4 + k) + bit_at words (n + 8 + k) + bit_at words (n + 12 + k)
+-- which of the first n words of a run are odd
+unfoldable pub odd_in_front : List ℕ → ℕ → Odd
+odd_in_front words n = pick (odd words n == 0) None (pick (odd words n == 1) (One (last_odd words n)) Several)
+
+-- which are, with one more, at this place
+abbrev pub with_odd : Odd → ℕ → Odd
+with_odd None n = One n
+with_odd (One _) n = Several
+with_odd Several n = Several

@@ -16,7 +16,7 @@ use Rattle.rules.proofs.HistoryLists.{openings_append, closings_append}
 use Rattle.paging.specs.Walk.{Walked, reaches, stops, Virtual, Mapping, translated}
 use Rattle.requests.specs.Asked.{requested, call_there, comes_to, made_as, counts_as, counted}
 use Rattle.requests.specs.Counts.{plain_event, form_event, named_event, event_told, openings_told, closings_told, CountsAreTold}
-use Rattle.requests.specs.Requests.{Request, CALL, PAGE_READ, PAGE_WRITE, PAGE_CHECK, WALK, BY_VA, tells}
+use Rattle.requests.specs.Requests.{Request, CALL, PAGE_READ, PAGE_WRITE, PAGE_CHECK, WALK, BY_VA}
 use Rattle.requests.specs.Requests.{mapped, named, by_virtual, respond}
 use Rattle.requests.specs.Virtual.{Form, VALIDATE, LOAD, STORE, form_fits, call_on}
 use Rattle.requests.proofs.AsCalls.{named_made}

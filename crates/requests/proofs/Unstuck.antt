@@ -11,7 +11,7 @@ use lib.ListN.{length}
 use Rattle.words.proofs.ChoiceLaws.{lt_or_le, same_or_not, both_true}
 use Rattle.entries.specs.Entry.{MERGEABLE, is_address, frame_of, is_party, is_guest, entry, zero_entry, to_moved}
 use Rattle.entries.specs.declared.entry.Entry.{Entry}
-use Rattle.entries.specs.declared.entry.Decoded.TheVariants.{Good}
+use Rattle.std.specs.Prelude.{Ok}
 use Rattle.entries.specs.declared.leaf.LeafWord.{LeafWord}
 use Rattle.entries.specs.declared.leaf.LeafWord.TheVariants.{Absent, Present, Misshapen}
 use Rattle.entries.proofs.LeafLaws.{leaf_absent}
@@ -47,7 +47,7 @@ host_party = refl
 record FixedIn (s : State) (hpa : ℕ) (page : Entry) : Type 0 where
   pub sound : Sound s
   pub address : is_address hpa ≡ true
-  pub here : entry_at s (frame_of hpa) ≡ Good page
+  pub here : entry_at s (frame_of hpa) ≡ Ok page
   pub fixed : page.fixed ≡ true
 
 module _ {s : State} {hpa : ℕ} {page : Entry} (p : FixedIn s hpa page) where

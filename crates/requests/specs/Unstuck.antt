@@ -1,9 +1,8 @@
 -- 02, Q-3, "two frames can't be freed": that no page is stuck. What is claimed of a fixed page in any state that a list of requests from an
 -- empty table reaches.
-use Rattle.std.specs.Prelude.{◌≡◌, true, false, List, [], ◌∷◌, ◌≢◌, ℕ, ◌+◌, ◌-◌, ◌<◌, length}
+use Rattle.std.specs.Prelude.{◌≡◌, true, false, List, [], ◌∷◌, ◌≢◌, ℕ, ◌+◌, ◌-◌, ◌<◌, length, Ok}
 use Rattle.entries.specs.Entry.{SHARED, is_address, frame_of, is_guest, zero_entry}
 use Rattle.entries.specs.declared.entry.Entry.{Entry}
-use Rattle.entries.specs.declared.entry.Decoded.TheVariants.{Good}
 use Rattle.entries.specs.declared.leaf.LeafWord.TheVariants.{Absent, Present}
 use Rattle.rules.specs.Answers.{Told, refused, done, unfixed}
 use Rattle.rules.specs.Calls.{PUNMERGE, PUNFIX, step}
@@ -20,7 +19,7 @@ pub data AnsweredOrShared : Told → Type 0 where
 
 -- the address of a SHARED frame
 abbrev pub IsShared : State → ℕ → Type 0
-IsShared s hpa = (is_address hpa ≡ true) × ((e : Entry) × ((entry_at s (frame_of hpa) ≡ Good e) × (e.kind ≡ SHARED)))
+IsShared s hpa = (is_address hpa ≡ true) × ((e : Entry) × ((entry_at s (frame_of hpa) ≡ Ok e) × (e.kind ≡ SHARED)))
 
 -- none of these is that address
 abbrev pub NoneOf : List ℕ → ℕ → Type 0
@@ -42,9 +41,9 @@ pub data Releases (hpa : ℕ) : State → List ℕ → State → Type 0 where
 -- after it the page is not fixed, and its leaf is SHARED
 pub record Released (s : State) (hpa leaf : ℕ) : Type 0 where
   pub page : Entry
-  pub here : entry_at s (frame_of hpa) ≡ Good page
+  pub here : entry_at s (frame_of hpa) ≡ Ok page
   pub unfixed : page.fixed ≡ false
-  pub leaf_shared : entry_at s leaf ≡ Good zero_entry
+  pub leaf_shared : entry_at s leaf ≡ Ok zero_entry
 
 pub record Unstuck (s : State) (hpa : ℕ) (page : Entry) : Type 0 where
   -- the present words of its leaf are those of guests, each with an address: as many guests are in the page
@@ -55,7 +54,7 @@ pub record Unstuck (s : State) (hpa : ℕ) (page : Entry) : Type 0 where
   pub unmerged :
       (frame guest : ℕ) → IsShared s frame → guest < 512 → consulted s page guest ≢ Absent
       → let o = step s (PUNMERGE 0 hpa frame guest) in
-      (o.told ≡ done) × (entry_at o.after (frame_of hpa) ≡ Good page)
+      (o.told ≡ done) × (entry_at o.after (frame_of hpa) ≡ Ok page)
       × (present_words s (leaf_frame page) ≡ present_words o.after (leaf_frame page) + 1)
   pub answers : AnsweredOrShared (step s (PUNFIX 0 hpa)).told
   -- with k guests in it: k - 1 PUNMERGEs into as many SHARED frames and one PUNFIX, or one PUNFIX where k is 0
@@ -67,4 +66,4 @@ abbrev pub NoPageStuck : Type 0
 NoPageStuck =
     (size : ℕ) (memory : List ℕ) (requests : List Request)
     → let s = afterwards (empty_table size memory) requests in
-    (hpa : ℕ) (page : Entry) → is_address hpa ≡ true → entry_at s (frame_of hpa) ≡ Good page → page.fixed ≡ true → Unstuck s hpa page
+    (hpa : ℕ) (page : Entry) → is_address hpa ≡ true → entry_at s (frame_of hpa) ≡ Ok page → page.fixed ≡ true → Unstuck s hpa page

@@ -16,12 +16,13 @@ use Rattle.words.specs.Choice.{pick, ◌and◌, ◌or◌}
 use Rattle.words.proofs.ChoiceLaws.{lt_or_le, pick_true, pick_false, and_left, and_right}
 use Rattle.entries.specs.Entry.{is_owned, is_unowned, zero_entry, entry, asid_fits, flags_fit, address_fits, rule, by_rules, WellFormed}
 use Rattle.entries.specs.Entry.{fields, decoded, encoded}
-use Rattle.entries.specs.Reasons.{NO_ENTRY}
+use Rattle.entries.specs.declared.reason.Reason.{Reason}
+use Rattle.entries.specs.declared.reason.Reason.TheVariants.{NoEntry}
 use Rattle.rmp.specs.Table.{covered, is_whole, entry_in, address_in, put_entry}
 use Rattle.entries.specs.declared.entry.Entry.{Entry}
-use Rattle.entries.specs.declared.entry.Decoded.TheVariants.{Good, Bad}
+use Rattle.std.specs.Prelude.{Ok, Err}
 use Rattle.entries.proofs.EntryLaws.{decode_encode, decode_good, encode_decode}
-use Rattle.entries.proofs.RuleLaws.{chosen, reason_within}
+use Rattle.entries.proofs.RuleLaws.{IsOneOfFour, chosen, reason_within}
 
 -- the words of a table after an entry was put
 module _ (t : List ℕ) (f : ℕ) (e : Entry) where
@@ -66,7 +67,7 @@ module _ (t : List ℕ) (f : ℕ) (e : Entry) where
       let within : 2 * f + 1 < length (set t (2 * f) (encoded e).0) = rw length-set (omega arith) in
       rw (put_in h, get_or-set_same)
 
-  pub entry_put_same : f < covered t → WellFormed (covered t) e → entry_in (put_entry t f e) f ≡ Good e
+  pub entry_put_same : f < covered t → WellFormed (covered t) e → entry_in (put_entry t f e) f ≡ Ok e
   unfolding entry_in
   entry_put_same h w =
       rw (covered_put, word0_same h, word1_same h, decode_encode (covered t) e w) (pick_true _ _ (lt-ltb _ _ h))
@@ -79,45 +80,45 @@ module _ (t : List ℕ) (f : ℕ) (e : Entry) where
       rw (covered_put, word0, word1)
 
 -- what a good entry tells: the table covers its frame, and it is well formed
-pub entry_good : (t : List ℕ) (f : ℕ) (e : Entry) → entry_in t f ≡ Good e → (f < covered t) × (WellFormed (covered t) e)
+pub entry_good : (t : List ℕ) (f : ℕ) (e : Entry) → entry_in t f ≡ Ok e → (f < covered t) × (WellFormed (covered t) e)
 unfolding entry_in
-entry_good t f e g = let q = chosen _ NO_ENTRY g in (ltb-true _ _ q.0, (decode_good _ _ _ e q.1).2)
+entry_good t f e g = let q = chosen _ NoEntry g in (ltb-true _ _ q.0, (decode_good _ _ _ e q.1).2)
 
 -- a bad one that the table covers has one of the four reasons
-pub entry_bad : (t : List ℕ) (f reason : ℕ) → f < covered t → entry_in t f ≡ Bad reason → (1 ≤ reason) × (reason ≤ 4)
+pub entry_bad : (t : List ℕ) (f : ℕ) (reason : Reason) → f < covered t → entry_in t f ≡ Err reason → IsOneOfFour reason
 unfolding entry_in decoded
 entry_bad t f reason h bad = reason_within _ _ _ reason (sym (pick_true _ _ (lt-ltb _ _ h)) ∙ bad)
 
 -- a good entry's address is the one that stands there
-pub entry_address : (t : List ℕ) (f : ℕ) (e : Entry) → entry_in t f ≡ Good e → address_in t f ≡ e.address
+pub entry_address : (t : List ℕ) (f : ℕ) (e : Entry) → entry_in t f ≡ Ok e → address_in t f ≡ e.address
 unfolding entry_in address_in fields entry
 entry_address t f e g =
-    let q = chosen _ NO_ENTRY g in
+    let q = chosen _ NoEntry g in
     pick_true _ _ q.0 ∙ ap (λ (x : Entry). x.address) (decode_good _ _ _ e q.1).1
 
 -- the entry that stands there, put again, changes no word
-pub put_same : (t : List ℕ) (f : ℕ) (e : Entry) → entry_in t f ≡ Good e → put_entry t f e ≡ t
+pub put_same : (t : List ℕ) (f : ℕ) (e : Entry) → entry_in t f ≡ Ok e → put_entry t f e ≡ t
 unfolding entry_in
 put_same t f e g =
-    let q = chosen _ NO_ENTRY g in
+    let q = chosen _ NoEntry g in
     let words = encode_decode (covered t) (get_or t (2 * f) 0) (get_or t (2 * f + 1) 0) e q.1 in
     rw (put_in t f e (ltb-true _ _ q.0), words, set-get_or, set-get_or)
 
 -- an empty table: all words zero
-pub decode_zero : (n : ℕ) → decoded n 0 0 ≡ Good zero_entry
+pub decode_zero : (n : ℕ) → decoded n 0 0 ≡ Ok zero_entry
 unfolding decoded fields zero_entry entry by_rules rule asid_fits flags_fit address_fits is_owned is_unowned pick ◌and◌ ◌or◌
 decode_zero n = refl
 
 -- an entry of two zero words
 pub entry_blank :
-    (t : List ℕ) (f : ℕ) → f < covered t → eqb (get_or t (2 * f) 0) 0 and eqb (get_or t (2 * f + 1) 0) 0 ≡ true → entry_in t f ≡ Good zero_entry
+    (t : List ℕ) (f : ℕ) → f < covered t → eqb (get_or t (2 * f) 0) 0 and eqb (get_or t (2 * f + 1) 0) 0 ≡ true → entry_in t f ≡ Ok zero_entry
 unfolding entry_in
 entry_blank t f h blank =
     let word0 : get_or t (2 * f) 0 ≡ 0 = eqb-true _ _ (and_left _ _ blank) in
     let word1 : get_or t (2 * f + 1) 0 ≡ 0 = eqb-true _ _ (and_right _ _ blank) in
     pick_true _ _ (lt-ltb _ _ h) ∙ rw (word0, word1) (decode_zero (covered t))
 
-pub entry_empty : (k f : ℕ) → f < covered (replicate k 0) → entry_in (replicate k 0) f ≡ Good zero_entry
+pub entry_empty : (k f : ℕ) → f < covered (replicate k 0) → entry_in (replicate k 0) f ≡ Ok zero_entry
 unfolding entry_in covered
 entry_empty k f h =
     let word1 : 2 * f + 1 < k = omega (arith, length-replicate {A = ℕ} k 0) in

@@ -1,12 +1,10 @@
 -- 01, "Sizes and layout": the table is a run of words, two for each of the first N frames. Where they lie is said here alone:
 -- all else goes through these five.
-use Rattle.std.specs.Prelude.{Bool, List, ℕ, ◌+◌, ◌*◌, ◌/◌, ◌%◌, ltb, eqb, length, get_or, set}
+use Rattle.std.specs.Prelude.{Bool, List, ℕ, ◌+◌, ◌*◌, ◌/◌, ◌%◌, ltb, eqb, length, get_or, set, Err}
 use Rattle.words.specs.Choice.{pick}
-use Rattle.entries.specs.Entry.{decoded, encoded}
-use Rattle.entries.specs.Reasons.{NO_ENTRY}
+use Rattle.entries.specs.Entry.{Decoded, decoded, encoded}
 use Rattle.entries.specs.declared.entry.Entry.{Entry}
-use Rattle.entries.specs.declared.entry.Decoded.{Decoded}
-use Rattle.entries.specs.declared.entry.Decoded.TheVariants.{Bad}
+use Rattle.entries.specs.declared.reason.Reason.TheVariants.{NoEntry}
 
 -- N, how many frames the table covers
 unfoldable pub covered : List ℕ → ℕ
@@ -21,7 +19,7 @@ unfoldable pub entry_in : List ℕ → ℕ → Decoded
 entry_in table frame =
     pick (ltb frame (covered table))
     (decoded (covered table) (get_or table (2 * frame) 0) (get_or table (2 * frame + 1) 0))
-    (Bad NO_ENTRY)
+    (Err NoEntry)
 
 -- the address that stands in a frame's entry, whatever else does; 0 where the table does not cover the frame
 unfoldable pub address_in : List ℕ → ℕ → ℕ

@@ -1,14 +1,16 @@
 // The table as a lent run of words: how many frames it covers, and a frame's entry in it. No other file knows where an entry's words
 // lie.
-ghost use Rattle.std.specs.Prelude.{◌≡◌, true};
+ghost use Rattle.std.specs.Prelude.{◌≡◌, true, Ok};
 ghost use Rattle.entries.specs.Entry.{zero_entry};
-ghost use Rattle.entries.specs.declared.entry.Decoded.TheVariants.{Good};
 ghost use Rattle.rmp.specs.Table.{covered, is_whole, entry_in, address_in, put_entry};
 
 use crate::encoding;
-use entries::entry::{Decoded, Entry, NO_ENTRY};
+use entries::entry::Entry;
+use entries::reason::Reason;
 
-// How many frames the table covers.
+// How many frames the table covers, two words each. (Of memory, 512 words each, `frames::frame::count` tells: one function of both would be
+// a division.)
+#[tactic(auto, unfolding(crate::specs::Table::covered))]
 pub fn covered(table: &[u64]) -> usize
     ensures { result ≡ covered table.now }
 {
@@ -16,6 +18,7 @@ pub fn covered(table: &[u64]) -> usize
 }
 
 // Whether no part of an entry is left over at the table's end.
+#[tactic(auto, unfolding(crate::specs::Table::is_whole))]
 pub fn is_whole(table: &[u64]) -> bool
     ensures { result ≡ is_whole table.now }
 {
@@ -23,7 +26,8 @@ pub fn is_whole(table: &[u64]) -> bool
 }
 
 // A frame's entry. A frame that the table does not cover has a bad one, with no reason.
-pub fn read(table: &[u64], frame: usize) -> Decoded
+#[tactic(auto, unfolding(crate::specs::Table::entry_in, crate::specs::Table::covered, words::specs::Choice::pick))]
+pub fn read(table: &[u64], frame: usize) -> Result<Entry, Reason>
     ensures { result ≡ entry_in table.now frame }
 {
     let n = table.len() / 2;
@@ -32,12 +36,12 @@ pub fn read(table: &[u64], frame: usize) -> Decoded
         let word1 = table[2 * frame + 1];
         return encoding::decode(n, word0, word1);
     }
-    Decoded::Bad(NO_ENTRY)
+    Err(Reason::NoEntry)
 }
 
 // Whether both words of a frame's entry are zero: it is then SHARED.
 fn is_blank(table: &[u64], frame: usize) -> bool
-    ensures { result ≡ true → entry_in table.now frame ≡ Good zero_entry }
+    ensures { result ≡ true → entry_in table.now frame ≡ Ok zero_entry }
 {
     if frame < table.len() / 2 {
         return (table[2 * frame] == 0) & (table[2 * frame + 1] == 0);
@@ -46,18 +50,18 @@ fn is_blank(table: &[u64], frame: usize) -> bool
 }
 
 // A frame's entry, as `read` answers it, and quicker where it is SHARED: for the tables of the host, which have to be.
-pub fn read_shared(table: &[u64], frame: usize) -> Decoded
+pub fn read_shared(table: &[u64], frame: usize) -> Result<Entry, Reason>
     ensures { result ≡ entry_in table.now frame }
 {
-    let blank = is_blank(table, frame);
-    if blank {
-        return Decoded::Good(Entry::zero());
+    if is_blank(table, frame) {
+        return Ok(Entry::zero());
     }
     read(table, frame)
 }
 
 // The address that stands in a frame's entry, whatever else does: to pass over an entry without decoding it. A frame that the table does
 // not cover has 0.
+#[tactic(auto, unfolding(crate::specs::Table::address_in, crate::specs::Table::covered, words::specs::Choice::pick))]
 pub fn address(table: &[u64], frame: usize) -> u64
     ensures { result ≡ address_in table.now frame }
 {
@@ -68,6 +72,7 @@ pub fn address(table: &[u64], frame: usize) -> u64
 }
 
 // A frame's entry becomes this one. A frame that the table does not cover has none, and nothing changes.
+#[tactic(auto, unfolding(crate::specs::Table::put_entry, crate::specs::Table::covered, words::specs::Choice::pick))]
 pub fn put(table: &mut [u64], frame: usize, e: Entry)
     ensures { table.new ≡ put_entry table.old frame e }
 {

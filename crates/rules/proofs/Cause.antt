@@ -11,10 +11,12 @@ use native.Mathlib.Omega.{arith}
 use lib.Dec.{leb, eqb}
 use Rattle.words.proofs.ChoiceLaws.{pick_either}
 use Rattle.entries.specs.declared.entry.Entry.{Entry}
-use Rattle.entries.specs.declared.entry.Decoded.{Decoded}
-use Rattle.entries.specs.declared.entry.Decoded.TheVariants.{Good, Bad}
+use Rattle.entries.specs.Entry.{Decoded}
+use Rattle.std.specs.Prelude.{Ok, Err}
 use Rattle.entries.specs.declared.leaf.LeafWord.{LeafWord}
 use Rattle.entries.specs.declared.leaf.LeafWord.TheVariants.{Absent, Present, Misshapen}
+use Rattle.entries.specs.declared.reason.Reason.{Reason}
+use Rattle.entries.specs.Reasons.{reason_number}
 use Rattle.rules.specs.Census.{Holding, holds, nothing, fails, in_leaf, in_entry, holding, Tally, total, stopped, counted, tally}
 use Rattle.rules.specs.Leaves.{consulted}
 use Rattle.rules.specs.Reasons.{rising, first_reason}
@@ -27,10 +29,10 @@ use Rattle.rules.proofs.StateLaws.{entry_reason}
 -- what is wrong with a state that gives 5 or 12 to a call of these frames
 pub data Fault (s : State) (frames : List ℕ) : Refusal → Type 0 where
   bad_entry :
-      (f reason : ℕ) → f < N s → entry_at s f ≡ Bad reason → first_reason s frames ≡ reason
-      → Fault s frames (BAD_ENTRY reason)
+      (f : ℕ) (reason : Reason) → f < N s → entry_at s f ≡ Err reason → first_reason s frames ≡ reason_number reason
+      → Fault s frames (BAD_ENTRY (reason_number reason))
   broken_leaf :
-      (f : ℕ) (e : Entry) (index : ℕ) → entry_at s f ≡ Good e → e.fixed ≡ true → Broken index (consulted s e index)
+      (f : ℕ) (e : Entry) (index : ℕ) → entry_at s f ≡ Ok e → e.fixed ≡ true → Broken index (consulted s e index)
       → Fault s frames BROKEN_LEAF
 
 -- a number up to the last, other than those two. It computes at a number that is written out, so that `refl` shows it.
@@ -58,16 +60,16 @@ module _ (s : State) (r : Refusal) where
 
   -- a frame that fails, where its reason would be the first
   module _ (frames : List ℕ) (guest f : ℕ) (inside : f < N s)
-      (first : (reason : ℕ) → entry_at s f ≡ Bad reason → first_reason s frames ≡ reason) where
+      (first : (reason : Reason) → entry_at s f ≡ Err reason → first_reason s frames ≡ reason_number reason) where
     entry_fails : (d : Decoded) → entry_at s f ≡ d → in_entry s guest d ≡ fails r → Fault s frames r
     unfolding in_entry
-    entry_fails (Good e) here h =
+    entry_fails (Ok e) here h =
         pick_either (λ held. held ≡ fails r → Fault s frames r) _ _ _ (λ fixed. leaf_fails _ (λ broken. broken_leaf f e guest here fixed (inl broken)))
         (λ unfixed.
         pick_either (λ held. held ≡ fails r → Fault s frames r) _ _ _
         (λ own u. absurd (false≢true (cc))) (λ other u. absurd (false≢true (cc)))) h
-    entry_fails (Bad reason) here h =
-        let same : BAD_ENTRY reason ≡ r = cc in rw same at (bad_entry f reason inside here (first reason here))
+    entry_fails (Err reason) here h =
+        let same : BAD_ENTRY (reason_number reason) ≡ r = cc in rw same at (bad_entry f reason inside here (first reason here))
 
     holding_fails : holding s guest f ≡ fails r → Fault s frames r
     unfolding holding
@@ -97,8 +99,8 @@ module _ (s : State) (guest : ℕ) where
   holding_good f ok = go (entry_at s f) refl
     where
       go : (d : Decoded) → entry_at s f ≡ d → first_reason s (f ∷ []) ≡ 0
-      go (Good e) here = named_good s f e [] here
-      go (Bad reason) here = absurd (ok (BAD_ENTRY reason) (rw here))
+      go (Ok e) here = named_good s f e [] here
+      go (Err reason) here = absurd (ok (BAD_ENTRY (reason_number reason)) (rw here))
 
   none_met : (k m : ℕ) → tally s guest k ≡ total m → first_reason s (rising k) ≡ 0
   unfolding tally rising first_reason

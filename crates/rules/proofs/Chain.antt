@@ -11,11 +11,10 @@ use lib.Dec.{eqb}
 use borrow.Author.Tests.{not-true, eqb-true, eqb-false, leb-false}
 use Rattle.words.specs.Choice.{pick}
 use Rattle.words.proofs.ChoiceLaws.{pick_true, pick_false, pick_either}
-use Rattle.entries.specs.Entry.{is_guest}
+use Rattle.entries.specs.Entry.{Decoded, is_guest}
 use Rattle.entries.specs.Leaf.{leaf_word}
 use Rattle.entries.specs.declared.entry.Entry.{Entry}
-use Rattle.entries.specs.declared.entry.Decoded.{Decoded}
-use Rattle.entries.specs.declared.entry.Decoded.TheVariants.{Good, Bad}
+use Rattle.std.specs.Prelude.{Ok, Err}
 use Rattle.entries.specs.declared.leaf.LeafWord.{LeafWord}
 use Rattle.entries.specs.declared.leaf.LeafWord.TheVariants.{Absent, Present, Misshapen}
 use Rattle.entries.proofs.Tells.{out_of_range}
@@ -91,21 +90,21 @@ module _ {s : State} {c : Call} where
   -- the entry of a frame that the table covers. Its reason is the first of the call's frames: it is the first, or those before are good
   pub decoded_by :
       (f : ℕ) (rest : Entry → Verdict) (others : List ℕ) → first_reason s (frames_of s c) ≡ first_reason s (f ∷ others) → f < N s
-      → ((e : Entry) → entry_at s f ≡ Good e → Stepped s c (settle s (rest e)))
+      → ((e : Entry) → entry_at s f ≡ Ok e → Stepped s c (settle s (rest e)))
       → Stepped s c (settle s (entered (entry_at s f) rest))
   unfolding entered
   decoded_by f rest others first inside ok = go (entry_at s f) refl
     where
       go : (d : Decoded) → entry_at s f ≡ d → Stepped s c (settle s (entered d rest))
-      go (Good e) here = ok e here
-      go (Bad reason) here =
+      go (Ok e) here = ok e here
+      go (Err reason) here =
           let some = (entry_reason s f reason inside here).0 in
           turned_down (fault (bad_entry f reason inside here (first ∙ named_bad s f reason others here some)))
 
   -- the word consulted for a fixed page
   module _ (f : ℕ) (e : Entry) (guest : ℕ) where
     pub placed_by :
-        (rest : ℕ → Verdict) → entry_at s f ≡ Good e → e.fixed ≡ true
+        (rest : ℕ → Verdict) → entry_at s f ≡ Ok e → e.fixed ≡ true
         → ((gpa : ℕ) → consulted s e guest ≡ Present gpa → Stepped s c (settle s (rest gpa)))
         → Stepped s c (settle s (placed (consulted s e guest) rest))
     unfolding placed
@@ -117,7 +116,7 @@ module _ {s : State} {c : Call} where
         go (Present gpa) word = ok gpa word
 
     pub vacant_by :
-        (rest : Verdict) → entry_at s f ≡ Good e → e.fixed ≡ true → (consulted s e guest ≡ Absent → Stepped s c (settle s rest))
+        (rest : Verdict) → entry_at s f ≡ Ok e → e.fixed ≡ true → (consulted s e guest ≡ Absent → Stepped s c (settle s rest))
         → Stepped s c (settle s (vacant (consulted s e guest) rest))
     unfolding vacant
     vacant_by rest here fixed ok = go (consulted s e guest) refl
@@ -128,7 +127,7 @@ module _ {s : State} {c : Call} where
         go Absent word = ok word
 
   -- who is left in the leaf of a fixed page
-  module _ (f : ℕ) (e : Entry) (here : entry_at s f ≡ Good e) (fixed : e.fixed ≡ true) where
+  module _ (f : ℕ) (e : Entry) (here : entry_at s f ≡ Ok e) (fixed : e.fixed ≡ true) where
     pub leaf_by : (v : Verdict) → (is_leaf (entry_at s (leaf_frame e)) ≡ true → Stepped s c (settle s v))
         → Stepped s c (settle s (unless (is_leaf (entry_at s (leaf_frame e))) BROKEN_LEAF v))
     leaf_by v = faultless _ _ v (λ none. broken_leaf f e 0 here fixed (inl (no_leaf_lem s e 0 none)))

@@ -9,7 +9,7 @@ use native.Mathlib.Omega.{arith}
 use borrow.Author.Tests.{eqb-false}
 use Rattle.entries.specs.Entry.{SHARED, MERGEABLE, LEAF, frame_of, entry}
 use Rattle.entries.specs.declared.entry.Entry.{Entry}
-use Rattle.entries.specs.declared.entry.Decoded.TheVariants.{Good}
+use Rattle.std.specs.Prelude.{Ok}
 use Rattle.entries.specs.declared.leaf.LeafWord.TheVariants.{Absent, Present}
 use Rattle.entries.proofs.LeafLaws.{leaf_present, leaf_absent}
 use Rattle.rules.specs.Assignment.{assigning, validating}
@@ -24,13 +24,13 @@ use Rattle.rules.proofs.Passed.{Updated, Validated, Fixed, Merged, Unmerged, Unf
 use Rattle.rules.proofs.Sound.{Sound}
 use Rattle.rules.proofs.StateLaws.{entry_tells, entry_after_word, word_elsewhere}
 
-module _ {s : State} (sound : Sound s) (g : ℕ) {d : Entry} (page : entry_at s g ≡ Good d) (fixed : d.fixed ≡ true) where
+module _ {s : State} (sound : Sound s) (g : ℕ) {d : Entry} (page : entry_at s g ≡ Ok d) (fixed : d.fixed ≡ true) where
   -- the leaf of a fixed page is no frame of another type
-  leaf_off : (f : ℕ) {e : Entry} → entry_at s f ≡ Good e → e.kind ≢ LEAF → leaf_frame d ≢ f
+  leaf_off : (f : ℕ) {e : Entry} → entry_at s f ≡ Ok e → e.kind ≢ LEAF → leaf_frame d ≢ f
   leaf_off f here other = leaf_apart s _ f (is_a_leaf s d 0 (λ broken. sound.unbroken g d 0 page fixed (inl broken))) here other
 
   -- nor the leaf of another fixed page
-  leaf_own : (f : ℕ) {e : Entry} → entry_at s f ≡ Good e → e.fixed ≡ true → g ≢ f → leaf_frame d ≢ leaf_frame e
+  leaf_own : (f : ℕ) {e : Entry} → entry_at s f ≡ Ok e → e.fixed ≡ true → g ≢ f → leaf_frame d ≢ leaf_frame e
   leaf_own f here too apart same = apart (sound.alone g f d _ page here fixed too same)
 
   module _ (guest : ℕ) where

@@ -15,7 +15,7 @@ use Rattle.entries.specs.Entry.{SHARED, MERGEABLE, frame_of, is_owned, is_unowne
 use Rattle.entries.specs.Entry.{to_moved}
 use Rattle.entries.specs.Leaf.{present_at}
 use Rattle.entries.specs.declared.entry.Entry.{Entry}
-use Rattle.entries.specs.declared.entry.Decoded.TheVariants.{Good}
+use Rattle.std.specs.Prelude.{Ok}
 use Rattle.entries.proofs.Tells.{page_fits, fixed_fits, unowned_fits, guest_range, moved_is}
 use Rattle.rules.specs.Assignment.{assigning, validating}
 use Rattle.rules.specs.Leaves.{leaf_frame, is_leaf}
@@ -32,7 +32,7 @@ use Rattle.rules.proofs.StateLaws.{word_beside_frame, word_after_zeros, word_aft
 -- one entry is another, and every other is as it was
 pub record Put (s u : State) (f : ℕ) (e : Entry) : Type 0 where
   pub same_size : SameSize s u
-  pub here : entry_at u f ≡ Good e
+  pub here : entry_at u f ≡ Ok e
   pub elsewhere : (g : ℕ) → g ≢ f → entry_at u g ≡ entry_at s g
 
 -- a change of memory alone
@@ -226,8 +226,8 @@ module _ {s : State} {caller hpa1 hpa2 asid : ℕ} {one two : Entry} {gpa : ℕ}
 pub record Unfixes (s u : State) (f leaf : ℕ) (e : Entry) : Type 0 where
   pub same_size : SameSize s u
   pub apart : leaf ≢ f
-  pub here : entry_at u f ≡ Good e
-  pub leaf_here : entry_at u leaf ≡ Good zero_entry
+  pub here : entry_at u f ≡ Ok e
+  pub leaf_here : entry_at u leaf ≡ Ok zero_entry
   pub elsewhere : (g : ℕ) → g ≢ f → g ≢ leaf → entry_at u g ≡ entry_at s g
   pub words : (g i : ℕ) → g ≢ f → g ≢ leaf → word_at u g i ≡ word_at s g i
   pub leaf_zeroed : (i : ℕ) → word_at u leaf i ≡ 0

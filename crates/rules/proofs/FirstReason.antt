@@ -11,16 +11,20 @@ use Rattle.words.specs.Choice.{pick}
 use Rattle.words.proofs.ChoiceLaws.{true_or_false, pick_true, pick_false}
 use Rattle.entries.specs.Entry.{reason_of}
 use Rattle.entries.specs.declared.entry.Entry.{Entry}
-use Rattle.entries.specs.declared.entry.Decoded.TheVariants.{Good, Bad}
+use Rattle.entries.specs.declared.reason.Reason.{Reason}
+use Rattle.entries.specs.Reasons.{reason_number}
+use Rattle.std.specs.Prelude.{Ok, Err}
 use Rattle.rules.specs.Reasons.{first_reason}
 use Rattle.rules.specs.State.{State, entry_at}
 
 module _ (s : State) where
-  pub named_bad : (f reason : ℕ) (rest : List ℕ) → entry_at s f ≡ Bad reason → 1 ≤ reason → first_reason s (f ∷ rest) ≡ reason
+  pub named_bad :
+      (f : ℕ) (reason : Reason) (rest : List ℕ) → entry_at s f ≡ Err reason → 1 ≤ reason_number reason
+      → first_reason s (f ∷ rest) ≡ reason_number reason
   unfolding first_reason reason_of
-  named_bad f reason rest here some = rw here (pick_false _ _ (ne_eqb reason 0 (λ e. omega arith)))
+  named_bad f reason rest here some = rw here (pick_false _ _ (ne_eqb (reason_number reason) 0 (λ e. omega arith)))
 
-  pub named_good : (f : ℕ) (e : Entry) (rest : List ℕ) → entry_at s f ≡ Good e → first_reason s (f ∷ rest) ≡ first_reason s rest
+  pub named_good : (f : ℕ) (e : Entry) (rest : List ℕ) → entry_at s f ≡ Ok e → first_reason s (f ∷ rest) ≡ first_reason s rest
   unfolding first_reason reason_of pick
   named_good f e rest here = rw here
 

@@ -8,7 +8,7 @@ use Prim.Native.Nat.{ℕ}
 use native.Mathlib.Omega.{arith}
 use Rattle.entries.specs.Entry.{entry, zero_entry}
 use Rattle.entries.specs.declared.entry.Entry.{Entry}
-use Rattle.entries.specs.declared.entry.Decoded.TheVariants.{Good}
+use Rattle.std.specs.Prelude.{Ok}
 use Rattle.entries.proofs.Tells.{false_not_true}
 use Rattle.rules.specs.Census.{places}
 use Rattle.rules.specs.History.{Demand3}
@@ -22,7 +22,7 @@ use Rattle.rules.proofs.Sums.{sum_none}
 
 -- ---- the start
 module _ (length : ℕ) (memory : List ℕ) where
-  none_fixed : (f : ℕ) (e : Entry) → entry_at (empty_table length memory) f ≡ Good e → e.fixed ≡ false
+  none_fixed : (f : ℕ) (e : Entry) → entry_at (empty_table length memory) f ≡ Ok e → e.fixed ≡ false
   unfolding zero_entry entry
   none_fixed f e here =
       let zero_here = entry_of_empty length memory f (entry_inside (empty_table length memory) f here) in

@@ -9,10 +9,9 @@ use lib.Dec.{eqb}
 use borrow.Author.Tests.{eq-eqb, ne_eqb}
 use Rattle.words.specs.Choice.{pick, ◌and◌}
 use Rattle.words.proofs.ChoiceLaws.{true_or_false, pick_true, pick_false, and_not}
-use Rattle.entries.specs.Entry.{is_address, is_owned}
+use Rattle.entries.specs.Entry.{Decoded, is_address, is_owned}
 use Rattle.entries.specs.declared.entry.Entry.{Entry}
-use Rattle.entries.specs.declared.entry.Decoded.{Decoded}
-use Rattle.entries.specs.declared.entry.Decoded.TheVariants.{Good, Bad}
+use Rattle.std.specs.Prelude.{Ok, Err}
 use Rattle.entries.specs.declared.leaf.LeafWord.{LeafWord}
 use Rattle.entries.specs.declared.leaf.LeafWord.TheVariants.{Absent, Present, Misshapen}
 use Rattle.entries.proofs.Tells.{false_not_true}
@@ -22,7 +21,7 @@ use Rattle.rules.specs.State.{State, entry_at}
 use Rattle.rules.proofs.Leaves.{consulted_address, leaf_good, owned_no_leaf}
 use Rattle.rules.proofs.StateLaws.{entry_tells}
 
-module _ (s : State) (guest f : ℕ) {e : Entry} (here : entry_at s f ≡ Good e) where
+module _ (s : State) (guest f : ℕ) {e : Entry} (here : entry_at s f ≡ Ok e) where
   -- a fixed page
   module _ (fixed : e.fixed ≡ true) where
     by_word : holding s guest f ≡ in_leaf (consulted s e guest)
@@ -55,7 +54,7 @@ module _ (s : State) (guest f : ℕ) {e : Entry} (here : entry_at s f ≡ Good e
     of_its_own v own = by_owner ∙ pick_true _ _ (rw (v, eq-eqb _ _ own))
 
 -- a frame that belongs to no guest
-pub nobodys : (s : State) (guest f : ℕ) {e : Entry} → entry_at s f ≡ Good e → (is_owned e.kind ≡ true → ⊥) → holding s guest f ≡ nothing
+pub nobodys : (s : State) (guest f : ℕ) {e : Entry} → entry_at s f ≡ Ok e → (is_owned e.kind ≡ true → ⊥) → holding s guest f ≡ nothing
 nobodys s guest f {e} here none =
     let t = entry_tells s f here in
     let v : e.validated ≡ false = ⊎_elim (λ v. absurd (none (t.validated_owned v))) (λ v. v) (true_or_false e.validated) in
@@ -68,7 +67,7 @@ leaf_nothing s guest f h =
 
 pub holding_same :
     (s u : State) (guest f : ℕ) → entry_at u f ≡ entry_at s f
-    → ((e : Entry) → entry_at s f ≡ Good e → e.fixed ≡ true → consulted u e guest ≡ consulted s e guest)
+    → ((e : Entry) → entry_at s f ≡ Ok e → e.fixed ≡ true → consulted u e guest ≡ consulted s e guest)
     → holding u guest f ≡ holding s guest f
 unfolding holding in_entry
 holding_same s u guest f entries words = rw entries (go (entry_at s f) refl)
@@ -79,8 +78,8 @@ holding_same s u guest f entries words = rw entries (go (entry_at s f) refl)
     page e false h w = pick_false _ _ refl ∙ sym (pick_false _ _ refl)
 
     go : (d : Decoded) → entry_at s f ≡ d → in_entry u guest d ≡ in_entry s guest d
-    go (Good e) here = page e e.fixed _ (words e here)
-    go (Bad reason) here = refl
+    go (Ok e) here = page e e.fixed _ (words e here)
+    go (Err reason) here = refl
 
 -- ---- a place is at an address
 present_only : (w : LeafWord) (gpa : ℕ) → in_leaf w ≡ holds gpa → w ≡ Present gpa
@@ -99,8 +98,8 @@ unfolding holding in_entry
 holding_address s guest gpa f = go (entry_at s f) refl
   where
     go : (d : Decoded) → entry_at s f ≡ d → in_entry s guest d ≡ holds gpa → is_address gpa ≡ true
-    go (Good e) here h =
+    go (Ok e) here h =
         ⊎_elim (λ fixed. consulted_address s e guest gpa (present_only _ gpa (sym (pick_true _ _ fixed) ∙ h)))
         (λ unfixed. rw (own_only _ _ gpa (sym (pick_false _ _ unfixed) ∙ h)) at (entry_tells s f here).address_ok)
         (true_or_false e.fixed)
-    go (Bad reason) here h = absurd (false≢true (cc))
+    go (Err reason) here h = absurd (false≢true (cc))

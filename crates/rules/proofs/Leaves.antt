@@ -9,11 +9,10 @@ use native.Mathlib.Omega.{arith}
 use borrow.Author.Tests.{eqb-true, eq-eqb}
 use Rattle.words.specs.Choice.{pick, ◌and◌, ◌or◌}
 use Rattle.words.proofs.ChoiceLaws.{same_or_not, pick_true, pick_false}
-use Rattle.entries.specs.Entry.{SHARED, PRIVATE, MERGEABLE, LEAF, frame_of, is_address, is_owned}
+use Rattle.entries.specs.Entry.{Decoded, SHARED, PRIVATE, MERGEABLE, LEAF, frame_of, is_address, is_owned}
 use Rattle.entries.specs.Leaf.{leaf_word}
 use Rattle.entries.specs.declared.entry.Entry.{Entry}
-use Rattle.entries.specs.declared.entry.Decoded.{Decoded}
-use Rattle.entries.specs.declared.entry.Decoded.TheVariants.{Good, Bad}
+use Rattle.std.specs.Prelude.{Ok, Err}
 use Rattle.entries.specs.declared.leaf.LeafWord.{LeafWord}
 use Rattle.entries.specs.declared.leaf.LeafWord.TheVariants.{Absent, Present, Misshapen}
 use Rattle.entries.proofs.LeafLaws.{address_whole, present_address}
@@ -71,12 +70,12 @@ whole_present some h (inl broken) = from_present h broken
 whole_present some h (inr host) = let zero_is = host.0 in absurd (omega arith)
 
 -- ---- a LEAF is a good entry of its own type, and no frame of another type
-pub leaf_good : (d : Decoded) → is_leaf d ≡ true → (e : Entry) × ((d ≡ Good e) × (e.kind ≡ LEAF))
+pub leaf_good : (d : Decoded) → is_leaf d ≡ true → (e : Entry) × ((d ≡ Ok e) × (e.kind ≡ LEAF))
 unfolding is_leaf
-leaf_good (Good e) h = (e, (refl, eqb-true _ _ h))
-leaf_good (Bad reason) h = absurd (false≢true h)
+leaf_good (Ok e) h = (e, (refl, eqb-true _ _ h))
+leaf_good (Err reason) h = absurd (false≢true h)
 
-pub leaf_apart : (s : State) (f g : ℕ) {e : Entry} → is_leaf (entry_at s f) ≡ true → entry_at s g ≡ Good e → e.kind ≢ LEAF → f ≢ g
+pub leaf_apart : (s : State) (f g : ℕ) {e : Entry} → is_leaf (entry_at s f) ≡ true → entry_at s g ≡ Ok e → e.kind ≢ LEAF → f ≢ g
 leaf_apart s f g {e} h here other same =
     let leaf = leaf_good (entry_at s f) h in
     let there = leaf.1.0 in
@@ -93,13 +92,13 @@ pub shared_unowned : {kind : ℕ} → kind ≡ SHARED → is_owned kind ≡ true
 shared_unowned k o = ⊎_elim (λ h. let z : ⊥ = omega arith in absurd z) (λ h. let z : ⊥ = omega arith in absurd z) (owned_kinds _ o)
 
 -- the leaf of a fixed page is in the table
-pub leaf_inside : (s : State) (f : ℕ) {page : Entry} → entry_at s f ≡ Good page → page.fixed ≡ true → leaf_frame page < N s
+pub leaf_inside : (s : State) (f : ℕ) {page : Entry} → entry_at s f ≡ Ok page → page.fixed ≡ true → leaf_frame page < N s
 unfolding leaf_frame
 leaf_inside s f here fixed = (entry_tells s f here).fixed_leaf fixed
 
 -- and in memory
 pub leaf_has :
-    (s : State) (f : ℕ) {page : Entry} → sized s ≡ true → entry_at s f ≡ Good page → page.fixed ≡ true → leaf_frame page < M s
+    (s : State) (f : ℕ) {page : Entry} → sized s ≡ true → entry_at s f ≡ Ok page → page.fixed ≡ true → leaf_frame page < M s
 leaf_has s f size here fixed =
     let inside = leaf_inside s f here fixed in
     let least = (sizes s size).memory_least in
@@ -111,12 +110,12 @@ unfolding ◌or◌
 not_named true t h = absurd (false≢true (sym h))
 not_named false t h = (refl, h)
 
-names_not : (e : Entry) (leaf : ℕ) → e.fixed ≡ true → names_leaf (Good e) leaf ≡ false → e.address ≢ leaf
+names_not : (e : Entry) (leaf : ℕ) → e.fixed ≡ true → names_leaf (Ok e) leaf ≡ false → e.address ≢ leaf
 unfolding names_leaf ◌and◌
 names_not e leaf fixed free same = absurd (false≢true (sym free ∙ rw (fixed, eq-eqb _ _ same)))
 
 unused_below :
-    (s : State) (leaf n f : ℕ) (e : Entry) → leaf_in_use s leaf n ≡ false → f < n → entry_at s f ≡ Good e → e.fixed ≡ true
+    (s : State) (leaf n f : ℕ) (e : Entry) → leaf_in_use s leaf n ≡ false → f < n → entry_at s f ≡ Ok e → e.fixed ≡ true
     → e.address ≢ leaf
 unfolding leaf_in_use
 unused_below s leaf zero f e free below here fixed = let z : ⊥ = omega arith in absurd z
@@ -130,7 +129,7 @@ unfolding frame_of
 same_frame a b h k same = let p = address_whole a h in let q = address_whole b k in omega arith
 
 pub unused_leaf :
-    (s : State) (leaf f : ℕ) {e : Entry} → leaf_in_use s leaf (N s) ≡ false → is_address leaf ≡ true → entry_at s f ≡ Good e → e.fixed ≡ true
+    (s : State) (leaf f : ℕ) {e : Entry} → leaf_in_use s leaf (N s) ≡ false → is_address leaf ≡ true → entry_at s f ≡ Ok e → e.fixed ≡ true
     → leaf_frame e ≢ frame_of leaf
 unfolding leaf_frame
 unused_leaf s leaf f free address here fixed same =

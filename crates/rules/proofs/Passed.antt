@@ -6,7 +6,7 @@ use Prim.Native.Nat.{ℕ, ◌<◌, ◌≤◌}
 use lib.Dec.{eqb}
 use Rattle.entries.specs.Entry.{SHARED, MERGEABLE, LEAF, frame_of, is_guest}
 use Rattle.entries.specs.declared.entry.Entry.{Entry}
-use Rattle.entries.specs.declared.entry.Decoded.TheVariants.{Good}
+use Rattle.std.specs.Prelude.{Ok}
 use Rattle.entries.specs.declared.leaf.LeafWord.TheVariants.{Absent, Present}
 use Rattle.rules.specs.Arguments.{update_arguments, validate_arguments, two_frame_arguments, unmerge_arguments}
 use Rattle.rules.specs.Arguments.{one_frame_arguments, access_arguments, may_access}
@@ -20,7 +20,7 @@ pub record Updated (s : State) (caller hpa gpa asid kind : ℕ) (old : Entry) : 
   pub arguments : update_arguments caller hpa gpa asid kind ≡ true
   pub host : caller ≡ 0
   pub inside : frame_of hpa < N s
-  pub here : entry_at s (frame_of hpa) ≡ Good old
+  pub here : entry_at s (frame_of hpa) ≡ Ok old
   pub no_leaf_lem : eqb old.kind LEAF ≡ false
   pub unfixed : old.fixed ≡ false
 
@@ -30,7 +30,7 @@ pub record Validated (s : State) (caller gpa hpa kind : ℕ) (old : Entry) : Typ
   pub arguments : validate_arguments caller gpa hpa kind ≡ true
   pub guest : caller ≡ 0 → ⊥
   pub inside : frame_of hpa < N s
-  pub here : entry_at s (frame_of hpa) ≡ Good old
+  pub here : entry_at s (frame_of hpa) ≡ Ok old
   pub type : old.kind ≡ kind
   pub owner : old.asid ≡ caller
   pub unfixed : old.fixed ≡ false
@@ -43,7 +43,7 @@ pub record Fixed (s : State) (caller hpa leaf : ℕ) (old : Entry) : Type 0 wher
   pub host : caller ≡ 0
   pub inside : frame_of hpa < N s
   pub leaf_inside : frame_of leaf < N s
-  pub here : entry_at s (frame_of hpa) ≡ Good old
+  pub here : entry_at s (frame_of hpa) ≡ Ok old
   pub leaf_kind : is_leaf (entry_at s (frame_of leaf)) ≡ true
   pub type : old.kind ≡ MERGEABLE
   pub unfixed : old.fixed ≡ false
@@ -57,8 +57,8 @@ pub record Merged (s : State) (caller hpa1 hpa2 : ℕ) (one two : Entry) : Type 
   pub host : caller ≡ 0
   pub inside1 : frame_of hpa1 < N s
   pub inside2 : frame_of hpa2 < N s
-  pub here1 : entry_at s (frame_of hpa1) ≡ Good one
-  pub here2 : entry_at s (frame_of hpa2) ≡ Good two
+  pub here1 : entry_at s (frame_of hpa1) ≡ Ok one
+  pub here2 : entry_at s (frame_of hpa2) ≡ Ok two
   pub type1 : one.kind ≡ MERGEABLE
   pub type2 : two.kind ≡ MERGEABLE
   pub fixed1 : one.fixed ≡ true
@@ -74,8 +74,8 @@ pub record Unmerged (s : State) (caller hpa1 hpa2 asid : ℕ) (one two : Entry) 
   pub host : caller ≡ 0
   pub inside1 : frame_of hpa1 < N s
   pub inside2 : frame_of hpa2 < N s
-  pub here1 : entry_at s (frame_of hpa1) ≡ Good one
-  pub here2 : entry_at s (frame_of hpa2) ≡ Good two
+  pub here1 : entry_at s (frame_of hpa1) ≡ Ok one
+  pub here2 : entry_at s (frame_of hpa2) ≡ Ok two
   pub type1 : one.kind ≡ MERGEABLE
   pub type2 : two.kind ≡ SHARED
   pub fixed1 : one.fixed ≡ true
@@ -88,7 +88,7 @@ pub record Unfixing (s : State) (caller hpa : ℕ) (old : Entry) : Type 0 where
   pub arguments : one_frame_arguments caller hpa ≡ true
   pub host : caller ≡ 0
   pub inside : frame_of hpa < N s
-  pub here : entry_at s (frame_of hpa) ≡ Good old
+  pub here : entry_at s (frame_of hpa) ≡ Ok old
   pub type : old.kind ≡ MERGEABLE
   pub fixed : old.fixed ≡ true
   pub leaf_kind : is_leaf (entry_at s (leaf_frame old)) ≡ true
@@ -108,14 +108,14 @@ pub record Freed (s : State) (caller hpa : ℕ) (old : Entry) : Type 0 where
 pub data Way (s : State) (writes : Bool) (caller gpa frame gtype : ℕ) : Type 0 where
   above : N s ≤ frame → gtype ≡ SHARED → Way s writes caller gpa frame gtype
   shared :
-      (page : Entry) → frame < N s → entry_at s frame ≡ Good page → page.kind ≡ SHARED → gtype ≡ SHARED
+      (page : Entry) → frame < N s → entry_at s frame ≡ Ok page → page.kind ≡ SHARED → gtype ≡ SHARED
       → Way s writes caller gpa frame gtype
   own :
-      (page : Entry) → frame < N s → entry_at s frame ≡ Good page → page.kind ≡ gtype → eqb gtype SHARED ≡ false
+      (page : Entry) → frame < N s → entry_at s frame ≡ Ok page → page.kind ≡ gtype → eqb gtype SHARED ≡ false
       → page.fixed ≡ false
       → page.asid ≡ caller → page.address ≡ gpa → page.validated ≡ true → Way s writes caller gpa frame gtype
   merged :
-      (page : Entry) → frame < N s → entry_at s frame ≡ Good page → page.kind ≡ gtype → eqb gtype SHARED ≡ false
+      (page : Entry) → frame < N s → entry_at s frame ≡ Ok page → page.kind ≡ gtype → eqb gtype SHARED ≡ false
       → page.fixed ≡ true
       → writes ≡ false → consulted s page caller ≡ Present gpa → Way s writes caller gpa frame gtype
 

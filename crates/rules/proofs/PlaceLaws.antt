@@ -10,10 +10,9 @@ use lib.Dec.{eqb}
 use borrow.Author.Tests.{eq-eqb, ne_eqb}
 use Rattle.words.specs.Choice.{pick, ◌and◌}
 use Rattle.words.proofs.ChoiceLaws.{same_or_not, pick_true, pick_false}
-use Rattle.entries.specs.Entry.{bit}
+use Rattle.entries.specs.Entry.{Decoded, bit}
 use Rattle.entries.specs.declared.entry.Entry.{Entry}
-use Rattle.entries.specs.declared.entry.Decoded.{Decoded}
-use Rattle.entries.specs.declared.entry.Decoded.TheVariants.{Good, Bad}
+use Rattle.std.specs.Prelude.{Ok, Err}
 use Rattle.rules.specs.Balance.{sum}
 use Rattle.rules.specs.Census.{Holding, holds, nothing, fails, in_entry, holding, place_in, places_below, places}
 use Rattle.rules.specs.State.{State, N, entry_at}
@@ -41,8 +40,8 @@ module _ (s : State) (guest gpa : ℕ) where
   holding_inside f = go (entry_at s f) refl
     where
       go : (d : Decoded) → entry_at s f ≡ d → in_entry s guest d ≡ holds gpa → f < N s
-      go (Good e) here h = entry_inside s f here
-      go (Bad reason) here h = absurd (false≢true (cc))
+      go (Ok e) here h = entry_inside s f here
+      go (Err reason) here h = absurd (false≢true (cc))
 
   place_is_one : (f : ℕ) → holding s guest f ≡ holds gpa → place_at s guest gpa f ≡ 1
   unfolding place_in
@@ -76,7 +75,7 @@ nothing_counts gpa e = rw e
 
 -- a page that is not fixed and is VALIDATED counts for its owner at its address
 pub page_counts :
-    (s : State) (guest f : ℕ) {e : Entry} → entry_at s f ≡ Good e → e.fixed ≡ false → e.validated ≡ true → (gpa : ℕ)
+    (s : State) (guest f : ℕ) {e : Entry} → entry_at s f ≡ Ok e → e.fixed ≡ false → e.validated ≡ true → (gpa : ℕ)
     → place_in (holding s guest f) gpa ≡ bit (eqb e.asid guest and eqb e.address gpa)
 unfolding place_in ◌and◌ bit pick
 page_counts s guest f {e} here unfixed v gpa =

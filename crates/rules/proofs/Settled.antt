@@ -7,10 +7,9 @@ use Prim.Native.Nat.{ℕ, ◌<◌}
 use borrow.Author.Tests.{ltb-true}
 use Rattle.words.specs.Choice.{pick}
 use Rattle.words.proofs.ChoiceLaws.{pick_false}
-use Rattle.entries.specs.Entry.{frame_of, reason_of}
+use Rattle.entries.specs.Entry.{Decoded, frame_of, reason_of}
 use Rattle.entries.specs.declared.entry.Entry.{Entry}
-use Rattle.entries.specs.declared.entry.Decoded.{Decoded}
-use Rattle.entries.specs.declared.entry.Decoded.TheVariants.{Good, Bad}
+use Rattle.std.specs.Prelude.{Ok, Err}
 use Rattle.entries.specs.declared.leaf.LeafWord.{LeafWord}
 use Rattle.entries.specs.declared.leaf.LeafWord.TheVariants.{Absent, Present, Misshapen}
 use Rattle.rmp.specs.Table.{entry_in}
@@ -42,11 +41,11 @@ module _ {P : Type 0} where
   after_choice false one two first second = second refl
 
   after_entry :
-      (d : Decoded) (chain : Entry → Verdict → Verdict) → ((e : Entry) → d ≡ Good e → Settled P (chain e))
+      (d : Decoded) (chain : Entry → Verdict → Verdict) → ((e : Entry) → d ≡ Ok e → Settled P (chain e))
       → Settled P (λ v. entered d λ e. chain e v)
   unfolding entered
-  after_entry (Good e) chain follows = follows e refl
-  after_entry (Bad reason) chain follows = refuses _ (λ v. refl)
+  after_entry (Ok e) chain follows = follows e refl
+  after_entry (Err reason) chain follows = refuses _ (λ v. refl)
 
   after_place :
       (w : LeafWord) (chain : ℕ → Verdict → Verdict) → ((gpa : ℕ) → Settled P (chain gpa)) → Settled P (λ v. placed w λ gpa. chain gpa v)
@@ -60,7 +59,7 @@ module _ {P : Type 0} where
 abbrev pub Sane : State → ℕ → Type 0
 Sane s frame = (frame < M s) × (reason_of (entry_at s frame) ≡ 0)
 
-good_sane : (s : State) (frame : ℕ) (e : Entry) → entry_at s frame ≡ Good e → reason_of (entry_at s frame) ≡ 0
+good_sane : (s : State) (frame : ℕ) (e : Entry) → entry_at s frame ≡ Ok e → reason_of (entry_at s frame) ≡ 0
 unfolding reason_of
 good_sane s frame e here = rw here
 

@@ -8,9 +8,10 @@ use Prim.Native.Nat.{ℕ, ◌<◌, ◌≤◌}
 use Rattle.words.proofs.ChoiceLaws.{same_or_not}
 use Rattle.entries.specs.Entry.{MERGEABLE, frame_of, entry, zero_entry, to_moved}
 use Rattle.entries.specs.declared.entry.Entry.{Entry}
-use Rattle.entries.specs.declared.entry.Decoded.TheVariants.{Good, Bad}
+use Rattle.std.specs.Prelude.{Ok, Err}
 use Rattle.entries.specs.declared.leaf.LeafWord.{LeafWord}
 use Rattle.entries.proofs.Tells.{false_not_true}
+use Rattle.entries.specs.declared.reason.Reason.{Reason}
 use Rattle.rules.specs.Answers.{Told}
 use Rattle.rules.specs.Assignment.{assigning, validating}
 use Rattle.rules.specs.Calls.{Call, step}
@@ -33,17 +34,17 @@ use Rattle.rules.proofs.Stepped.{step_cases}
 
 -- a fixed page is not at a frame whose entry is not fixed
 unfixed_apart :
-    (u : State) (f : ℕ) (e : Entry) → entry_at u f ≡ Good e → e.fixed ≡ false
-    → (g : ℕ) (d : Entry) → entry_at u g ≡ Good d → d.fixed ≡ true → g ≢ f
+    (u : State) (f : ℕ) (e : Entry) → entry_at u f ≡ Ok e → e.fixed ≡ false
+    → (g : ℕ) (d : Entry) → entry_at u g ≡ Ok d → d.fixed ≡ true → g ≢ f
 unfixed_apart u f e there unfixed g d here fixed same =
     false_not_true unfixed (rw (← (same_good u g f here there same)) fixed)
 
 module _ {s : State} (sound : Sound s) where
   -- a state with no fixed page that was not there before
   no_new_page :
-      (u : State) → SameSize s u → ((f reason : ℕ) → f < N u → entry_at u f ≡ Bad reason → ⊥)
-      → ((f : ℕ) (e : Entry) → entry_at u f ≡ Good e → e.fixed ≡ true → entry_at s f ≡ Good e)
-      → ((f : ℕ) (e : Entry) (index : ℕ) → entry_at u f ≡ Good e → e.fixed ≡ true → Broken index (consulted u e index) → ⊥)
+      (u : State) → SameSize s u → ((f : ℕ) (reason : Reason) → f < N u → entry_at u f ≡ Err reason → ⊥)
+      → ((f : ℕ) (e : Entry) → entry_at u f ≡ Ok e → e.fixed ≡ true → entry_at s f ≡ Ok e)
+      → ((f : ℕ) (e : Entry) (index : ℕ) → entry_at u f ≡ Ok e → e.fixed ≡ true → Broken index (consulted u e index) → ⊥)
       → Sound u
   no_new_page u same_size decodes was unbroken =
       record {
@@ -54,19 +55,19 @@ module _ {s : State} (sound : Sound s) where
       }
 
   -- what stays of the entries and of the words consulted
-  put_decodes : {u : State} {f : ℕ} {e : Entry} → Put s u f e → (g reason : ℕ) → g < N u → entry_at u g ≡ Bad reason → ⊥
+  put_decodes : {u : State} {f : ℕ} {e : Entry} → Put s u f e → (g : ℕ) (reason : Reason) → g < N u → entry_at u g ≡ Err reason → ⊥
   put_decodes {f = f} p g reason inside bad =
       ⊎_elim (λ same. not_bad _ g f p.here same bad)
       (λ other. sound.decodes g reason (rw (← p.same_size.same_N) inside) (sym (p.elsewhere g other) ∙ bad))
       (same_or_not g f)
 
   put_was :
-      {u : State} {f : ℕ} {e : Entry} → Put s u f e → e.fixed ≡ false → (g : ℕ) (d : Entry) → entry_at u g ≡ Good d → d.fixed ≡ true
-      → entry_at s g ≡ Good d
+      {u : State} {f : ℕ} {e : Entry} → Put s u f e → e.fixed ≡ false → (g : ℕ) (d : Entry) → entry_at u g ≡ Ok d → d.fixed ≡ true
+      → entry_at s g ≡ Ok d
   put_was p unfixed g d here fixed = sym (p.elsewhere g (unfixed_apart _ _ _ p.here unfixed g d here fixed)) ∙ here
 
   still_unbroken :
-      (g : ℕ) (d : Entry) (index : ℕ) {w : LeafWord} → entry_at s g ≡ Good d → d.fixed ≡ true → w ≡ consulted s d index → Broken index w → ⊥
+      (g : ℕ) (d : Entry) (index : ℕ) {w : LeafWord} → entry_at s g ≡ Ok d → d.fixed ≡ true → w ≡ consulted s d index → Broken index w → ⊥
   still_unbroken g d index page fixed same broken = sound.unbroken g d index page fixed (rw same at broken)
 
   assigning_sound :
@@ -139,15 +140,15 @@ module _ {s : State} (sound : Sound s) where
   -- both ways of PUNFIX
   module _ {caller hpa : ℕ} {old e : Entry} {u : State} (p : Unfixing s caller hpa old) (x : Unfixes s u (frame_of hpa) (leaf_frame old) e)
       (unfixed : e.fixed ≡ false) where
-    off : (g : ℕ) (d : Entry) → entry_at u g ≡ Good d → d.fixed ≡ true → (g ≢ frame_of hpa) × (g ≢ leaf_frame old)
+    off : (g : ℕ) (d : Entry) → entry_at u g ≡ Ok d → d.fixed ≡ true → (g ≢ frame_of hpa) × (g ≢ leaf_frame old)
     unfolding zero_entry entry
     off g d here fixed =
         (unfixed_apart _ _ _ x.here unfixed g d here fixed, unfixed_apart _ _ _ x.leaf_here refl g d here fixed)
 
-    page_was : (g : ℕ) (d : Entry) → entry_at u g ≡ Good d → d.fixed ≡ true → entry_at s g ≡ Good d
+    page_was : (g : ℕ) (d : Entry) → entry_at u g ≡ Ok d → d.fixed ≡ true → entry_at s g ≡ Ok d
     page_was g d here fixed = let apart = off g d here fixed in sym (x.elsewhere g apart.0 apart.1) ∙ here
 
-    decodes : (g reason : ℕ) → g < N u → entry_at u g ≡ Bad reason → ⊥
+    decodes : (g : ℕ) (reason : Reason) → g < N u → entry_at u g ≡ Err reason → ⊥
     decodes g reason inside bad =
         ⊎_elim (λ same. not_bad _ g _ x.here same bad)
         (λ other. ⊎_elim (λ same. not_bad _ g _ x.leaf_here same bad)
@@ -184,11 +185,11 @@ module _ {s : State} (sound : Sound s) where
     e : Fixes s u (frame_of hpa) (frame_of leaf) old new
     e = fixing_does p
 
-    was : (g : ℕ) (d : Entry) → entry_at u g ≡ Good d → g ≢ frame_of hpa → entry_at s g ≡ Good d
+    was : (g : ℕ) (d : Entry) → entry_at u g ≡ Ok d → g ≢ frame_of hpa → entry_at s g ≡ Ok d
     was g d here other = sym (e.put.elsewhere g other) ∙ here
 
     -- another fixed page has another leaf
-    other_leaf : (g : ℕ) (d : Entry) → entry_at u g ≡ Good d → d.fixed ≡ true → g ≢ frame_of hpa → leaf_frame d ≢ leaf_frame new
+    other_leaf : (g : ℕ) (d : Entry) → entry_at u g ≡ Ok d → d.fixed ≡ true → g ≢ frame_of hpa → leaf_frame d ≢ leaf_frame new
     unfolding leaf_frame entry
     other_leaf g d here fixed other =
         unused_leaf s leaf g p.unused (two_addresses _ _ _ p.arguments).1 (was g d here other) fixed
@@ -203,7 +204,7 @@ module _ {s : State} (sound : Sound s) where
         (same_or_not guest old.asid)
 
     fixing_alone :
-        (f g : ℕ) (c d : Entry) → entry_at u f ≡ Good c → entry_at u g ≡ Good d → c.fixed ≡ true → d.fixed ≡ true
+        (f g : ℕ) (c d : Entry) → entry_at u f ≡ Ok c → entry_at u g ≡ Ok d → c.fixed ≡ true → d.fixed ≡ true
         → leaf_frame c ≡ leaf_frame d → f ≡ g
     fixing_alone f g c d hc hd fc fd same =
         ⊎_elim

@@ -17,8 +17,10 @@ use Rattle.frames.proofs.FrameLaws.{count_put_frame, framed_put_frame, word_fram
 use Rattle.frames.proofs.FrameLaws.{frame_long, frame_word, differing_is, differing_within, same_words, put_words, words_are_frame}
 use Rattle.entries.specs.Entry.{frame_of, zero_entry, WellFormed}
 use Rattle.entries.specs.declared.entry.Entry.{Entry}
-use Rattle.entries.specs.declared.entry.Decoded.TheVariants.{Good, Bad}
+use Rattle.std.specs.Prelude.{Ok, Err}
 use Rattle.entries.proofs.Tells.{Tells, tells}
+use Rattle.entries.specs.declared.reason.Reason.{Reason}
+use Rattle.entries.proofs.RuleLaws.{IsOneOfFour}
 use Rattle.rmp.proofs.TableLaws.{covered_put, whole_put, entry_put_same, entry_put_other, put_same, entry_good, entry_bad, entry_empty}
 use Rattle.rules.specs.State.{State, state, empty_table, N, M, sized, covers}
 use Rattle.rules.specs.State.{entry_at, word_at, frame_at, differing_at, with_entry, with_word, with_frame}
@@ -91,28 +93,28 @@ module _ (s : State) (hpa : ℕ) where
 -- ---- entries
 module _ (s : State) (f : ℕ) where
   -- a good entry: the table covers its frame, and it is well formed
-  pub entry_inside : {e : Entry} → entry_at s f ≡ Good e → f < N s
+  pub entry_inside : {e : Entry} → entry_at s f ≡ Ok e → f < N s
   unfolding entry_at N
   entry_inside h = (entry_good s.table f _ h).0
 
-  pub entry_fits : {e : Entry} → entry_at s f ≡ Good e → WellFormed (N s) e
+  pub entry_fits : {e : Entry} → entry_at s f ≡ Ok e → WellFormed (N s) e
   unfolding entry_at N
   entry_fits h = (entry_good s.table f _ h).1
 
-  pub entry_tells : {e : Entry} → entry_at s f ≡ Good e → Tells (N s) e
+  pub entry_tells : {e : Entry} → entry_at s f ≡ Ok e → Tells (N s) e
   entry_tells h = tells (N s) _ (entry_fits h)
 
   -- a bad one that it covers has one of the four reasons
-  pub entry_reason : (reason : ℕ) → f < N s → entry_at s f ≡ Bad reason → (1 ≤ reason) × (reason ≤ 4)
+  pub entry_reason : (reason : Reason) → f < N s → entry_at s f ≡ Err reason → IsOneOfFour reason
   unfolding entry_at N
   entry_reason reason = entry_bad s.table f reason
 
-  pub entry_after_entry : (e : Entry) → f < N s → WellFormed (N s) e → entry_at (with_entry s f e) f ≡ Good e
+  pub entry_after_entry : (e : Entry) → f < N s → WellFormed (N s) e → entry_at (with_entry s f e) f ≡ Ok e
   unfolding entry_at with_entry N
   entry_after_entry e h w = entry_put_same s.table f e h w
 
   -- the entry that stands there, put again
-  pub same_entry : {e : Entry} → entry_at s f ≡ Good e → with_entry s f e ≡ s
+  pub same_entry : {e : Entry} → entry_at s f ≡ Ok e → with_entry s f e ≡ s
   unfolding entry_at with_entry
   same_entry h = rw (put_same s.table f _ h)
 
@@ -129,15 +131,15 @@ module _ (s : State) (f : ℕ) where
   entry_after_frame words g = refl
 
 -- two readings of one frame are one entry, and not both good and bad
-pub same_good : (s : State) (g f : ℕ) {d e : Entry} → entry_at s g ≡ Good d → entry_at s f ≡ Good e → g ≡ f → d ≡ e
+pub same_good : (s : State) (g f : ℕ) {d e : Entry} → entry_at s g ≡ Ok d → entry_at s f ≡ Ok e → g ≡ f → d ≡ e
 same_good s g f h k same = cc
 
-pub not_bad : (s : State) (g f : ℕ) {d : Entry} {reason : ℕ} → entry_at s f ≡ Good d → g ≡ f → entry_at s g ≡ Bad reason → ⊥
+pub not_bad : (s : State) (g f : ℕ) {d : Entry} {reason : Reason} → entry_at s f ≡ Ok d → g ≡ f → entry_at s g ≡ Err reason → ⊥
 not_bad s g f h same k = absurd (false≢true (cc))
 
 -- "Empty table: all words zero": every frame is SHARED
 pub entry_of_empty :
-    (length : ℕ) (memory : List ℕ) (f : ℕ) → f < N (empty_table length memory) → entry_at (empty_table length memory) f ≡ Good zero_entry
+    (length : ℕ) (memory : List ℕ) (f : ℕ) → f < N (empty_table length memory) → entry_at (empty_table length memory) f ≡ Ok zero_entry
 unfolding empty_table entry_at N
 entry_of_empty length memory f h = entry_empty length f h
 

@@ -33,7 +33,7 @@ ordinary_small n o = ⊎_elim (λ (h : 19 < n). absurd (false≢true (rw (lt-leb
 refusal_answers :
     {s : State} {frames : List ℕ} {c : Call} (r : Refusal) → Cause s frames r → MeetsNoBadEntry (refused r) → MayAnswer c (refused r)
 refusal_answers _ (plain {n} o) met = is_refused {number = n} (omega (arith, ordinary_small n o))
-refusal_answers _ (fault (bad_entry f reason inside here first)) met = absurd (met reason refl)
+refusal_answers _ (fault (bad_entry f reason inside here first)) met = absurd (met _ refl)
 refusal_answers _ (fault (broken_leaf f e guest here fixed word)) met = is_refused {number = 12} (omega arith)
 
 -- ---- RMPUPDATE

@@ -10,10 +10,9 @@ use lib.Dec.{eqb}
 use borrow.Author.Tests.{eqb-true, eqb-false, ltb-true, not-true}
 use Rattle.words.specs.Choice.{pick}
 use Rattle.words.proofs.ChoiceLaws.{and_left, and_right}
-use Rattle.entries.specs.Entry.{SHARED, LEAF, frame_of}
+use Rattle.entries.specs.Entry.{Decoded, SHARED, LEAF, frame_of}
 use Rattle.entries.specs.declared.entry.Entry.{Entry}
-use Rattle.entries.specs.declared.entry.Decoded.{Decoded}
-use Rattle.entries.specs.declared.entry.Decoded.TheVariants.{Good}
+use Rattle.std.specs.Prelude.{Ok}
 use Rattle.rules.specs.Access.{unfixed_access, fixed_access, covered_access, access, read, write}
 use Rattle.rules.specs.Answers.{Told, refused, Outcome, outcome, Verdict, settle, unless, both_entered}
 use Rattle.rules.specs.Arguments.{is_host}
@@ -43,7 +42,7 @@ guest_is : (caller : ℕ) → not (is_host caller) ≡ true → caller ≡ 0 →
 unfolding is_host
 guest_is caller h = eqb-false _ _ (not-true _ h)
 
-leaf_is : (d : Decoded) (e : Entry) → d ≡ Good e → eqb e.kind LEAF ≡ true → is_leaf d ≡ true
+leaf_is : (d : Decoded) (e : Entry) → d ≡ Ok e → eqb e.kind LEAF ≡ true → is_leaf d ≡ true
 unfolding is_leaf
 leaf_is d e h k = rw h k
 

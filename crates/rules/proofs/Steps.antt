@@ -6,7 +6,7 @@ use mathlib.Core.Bool.{true, false≢true}
 use Prim.Native.Nat.{ℕ}
 use Rattle.words.proofs.ChoiceLaws.{pick_either}
 use Rattle.entries.specs.declared.entry.Entry.{Entry}
-use Rattle.entries.specs.declared.entry.Decoded.TheVariants.{Good}
+use Rattle.std.specs.Prelude.{Ok}
 use Rattle.entries.proofs.Tells.{validated_is}
 use Rattle.rules.specs.Access.{read}
 use Rattle.rules.specs.Answers.{Told, refused, already}
@@ -75,7 +75,7 @@ unfolding validate_answer
 answered_already old = pick_either (λ told. told ≡ already → old.validated ≡ true) _ _ _ (λ v h. v) (λ v h. absurd (false≢true (cc)))
 
 pub validated_again :
-    (s : State) (frame : ℕ) (old : Entry) → entry_at s frame ≡ Good old → old.validated ≡ true → validating s frame old ≡ s
+    (s : State) (frame : ℕ) (old : Entry) → entry_at s frame ≡ Ok old → old.validated ≡ true → validating s frame old ≡ s
 unfolding validating
 validated_again s frame old here v = rw (validated_is old v) (same_entry s frame here)
 

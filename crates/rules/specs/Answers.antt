@@ -1,11 +1,11 @@
 -- 01, "Refusal numbers" and "The calls": what a call answers, and a call as a chain of checks, each with the number of its refusal,
 -- and then what is done. "A refusal returns its number alone and changes no word of table or memory": that is said once, in `settle`. (02,
 -- Q-2: "5 no longer comes alone".)
-use Rattle.std.specs.Prelude.{Bool, not, ℕ}
+use Rattle.std.specs.Prelude.{Bool, not, ℕ, Ok, Err}
 use Rattle.words.specs.Choice.{pick}
 use Rattle.entries.specs.declared.entry.Entry.{Entry}
-use Rattle.entries.specs.declared.entry.Decoded.{Decoded}
-use Rattle.entries.specs.declared.entry.Decoded.TheVariants.{Good, Bad}
+use Rattle.entries.specs.Entry.{Decoded}
+use Rattle.entries.specs.Reasons.{reason_number}
 use Rattle.rules.specs.Refusals.{Refusal, GEOMETRY, ARGUMENT, CALLER, OUTSIDE, BAD_ENTRY}
 use Rattle.rules.specs.State.{State, sized}
 
@@ -60,8 +60,8 @@ begins s arguments party inside rest =
 
 -- "An entry is decoded before use; a call goes on only with a decoded entry." A bad one refuses with 5 and its reason.
 unfoldable pub entered : Decoded → (Entry → Verdict) → Verdict
-entered (Good e) rest = rest e
-entered (Bad reason) rest = refuse (BAD_ENTRY reason)
+entered (Ok e) rest = rest e
+entered (Err reason) rest = refuse (BAD_ENTRY (reason_number reason))
 
 -- "5 (both)": the entry of the first named frame, then that of the second. So the reason is "the first-named bad frame's".
 unfoldable pub both_entered : Decoded → Decoded → (Entry → Entry → Verdict) → Verdict

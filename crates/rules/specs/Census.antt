@@ -1,11 +1,10 @@
 -- 01, "The calls": places and CENSUS. Both are counts of what the frames are to a guest, from one definition of a holding.
-use Rattle.std.specs.Prelude.{ℕ, zero, suc, ◌+◌, eqb}
+use Rattle.std.specs.Prelude.{ℕ, zero, suc, ◌+◌, eqb, Ok, Err}
 use Rattle.words.specs.Choice.{pick, ◌and◌}
-use Rattle.entries.specs.Entry.{is_guest}
-use Rattle.entries.specs.declared.entry.Decoded.{Decoded}
-use Rattle.entries.specs.declared.entry.Decoded.TheVariants.{Good, Bad}
+use Rattle.entries.specs.Entry.{Decoded, is_guest}
 use Rattle.entries.specs.declared.leaf.LeafWord.{LeafWord}
 use Rattle.entries.specs.declared.leaf.LeafWord.TheVariants.{Absent, Present, Misshapen}
+use Rattle.entries.specs.Reasons.{reason_number}
 use Rattle.rules.specs.Answers.{count, Outcome, Verdict, refuse, grant, settle, unless}
 use Rattle.rules.specs.Leaves.{consulted}
 use Rattle.rules.specs.Refusals.{Refusal, GEOMETRY, ARGUMENT, BAD_ENTRY, BROKEN_LEAF}
@@ -25,11 +24,11 @@ in_leaf Misshapen = fails BROKEN_LEAF
 
 -- "A *place* of a guest at an address: an unfixed VALIDATED entry with both, or a fixed page .."
 unfoldable pub in_entry : State → ℕ → Decoded → Holding
-in_entry s guest (Good page) =
+in_entry s guest (Ok page) =
     pick page.fixed
     (in_leaf (consulted s page guest))
     (pick (page.validated and eqb page.asid guest) (holds page.address) nothing)
-in_entry s guest (Bad reason) = fails (BAD_ENTRY reason)
+in_entry s guest (Err reason) = fails (BAD_ENTRY (reason_number reason))
 
 unfoldable pub holding : State → ℕ → ℕ → Holding
 holding s guest frame = in_entry s guest (entry_at s frame)

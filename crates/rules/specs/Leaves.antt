@@ -1,13 +1,11 @@
 -- 01, "Sizes and layout" and "Refusal numbers", 12 to 15, and 02, Q-3: the leaf of a fixed page, the word consulted in it, who uses it, and
 -- who is left in it.
-use Rattle.std.specs.Prelude.{Bool, false, ℕ, zero, suc, leb, eqb}
+use Rattle.std.specs.Prelude.{Bool, false, ℕ, zero, suc, leb, eqb, Ok, Err}
 use Rattle.words.specs.Choice.{pick, ◌and◌, ◌or◌}
 use Rattle.parity.specs.Odd.{odd, last_odd}
-use Rattle.entries.specs.Entry.{LEAF, frame_of, is_guest}
+use Rattle.entries.specs.Entry.{Decoded, LEAF, frame_of, is_guest}
 use Rattle.entries.specs.Leaf.{leaf_word}
 use Rattle.entries.specs.declared.entry.Entry.{Entry}
-use Rattle.entries.specs.declared.entry.Decoded.{Decoded}
-use Rattle.entries.specs.declared.entry.Decoded.TheVariants.{Good, Bad}
 use Rattle.entries.specs.declared.leaf.LeafWord.{LeafWord}
 use Rattle.entries.specs.declared.leaf.LeafWord.TheVariants.{Absent, Present, Misshapen}
 use Rattle.rules.specs.Answers.{Verdict, refuse, unless, when}
@@ -19,8 +17,8 @@ unfoldable pub leaf_frame : Entry → ℕ
 leaf_frame page = frame_of page.address
 
 unfoldable pub is_leaf : Decoded → Bool
-is_leaf (Good e) = eqb e.kind LEAF
-is_leaf (Bad reason) = false
+is_leaf (Ok e) = eqb e.kind LEAF
+is_leaf (Err reason) = false
 
 -- the word consulted: the guest's in the page's leaf. A leaf whose entry is not a well formed LEAF says as little as a misshapen word.
 unfoldable pub consulted : State → Entry → ℕ → LeafWord
@@ -40,8 +38,8 @@ vacant Absent rest = rest
 
 -- 15: one of the first n frames has a well formed FIXED entry that names the leaf at this address
 unfoldable pub names_leaf : Decoded → ℕ → Bool
-names_leaf (Good e) leaf = e.fixed and eqb e.address leaf
-names_leaf (Bad reason) leaf = false
+names_leaf (Ok e) leaf = e.fixed and eqb e.address leaf
+names_leaf (Err reason) leaf = false
 
 unfoldable pub leaf_in_use : State → ℕ → ℕ → Bool
 leaf_in_use s leaf zero = false

@@ -3,9 +3,8 @@
 use Rattle.std.specs.Prelude.{Bool, List, ℕ, leb, ltb, replicate}
 use Rattle.words.specs.Choice.{◌and◌}
 use Rattle.frames.specs.Frame.{frame_count, is_framed, word_in, frame_in, put_word, put_frame, differing_in}
-use Rattle.entries.specs.Entry.{frame_of}
+use Rattle.entries.specs.Entry.{Decoded, frame_of}
 use Rattle.entries.specs.declared.entry.Entry.{Entry}
-use Rattle.entries.specs.declared.entry.Decoded.{Decoded}
 use Rattle.rmp.specs.Table.{covered, is_whole, entry_in, put_entry}
 
 pub record State : Type 0 where

@@ -4,51 +4,42 @@ ghost use Rattle.rules.specs.State.{state};
 ghost use Rattle.format.specs.Text.{printed, after};
 ghost use Rattle.lines.specs.Read.{meant};
 ghost use Rattle.numbers.specs.Buffer.{buffer, appended};
+ghost use Rattle.numbers.specs.Held.{Appends};
 ghost use Rattle.format.specs.Response.{response, following};
 
-use lines::line::Said;
-use lines::reader::next_line;
-use monitor::step;
-use numbers::buffer::append;
+use lines::reader::Reader;
+use monitor::{Call, step};
+use numbers::buffer::Buffer;
 use replies::reply::append_reply;
 
 // Runs the calls that `text` says, and prints to the start of `out`, as much as there is room for. Answers how many bytes it printed.
 // 54 bytes of `out` for each byte of `text` are always enough.
+// Table and memory are two slices, and `out` has a count beside it: docs/PROMISES.md tells of this contract.
 pub fn run(table: &mut [u64], memory: &mut [u64], text: &[u8], out: &mut [u8]) -> usize
     ensures memory_after { state table.new memory.new
         ≡ after (state table.old memory.old) text.now }
     ensures result_after { buffer out.new result
         ≡ appended (buffer out.old 0) (printed (state table.old memory.old) text.now) }
 {
-    let mut at = 0;
-    let mut filled = 0;
-    while at < text.len() {
-        let line = next_line(text, at);
-        let said = line.said;
-        filled = respond(table, memory, said, out, filled);
-        at = line.next;
+    let mut replies = Buffer::new(out);
+    for said in Reader::new(text) {
+        respond(table, memory, said, &mut replies);
     }
-    filled
+    replies.filled()
 }
 
 // Makes the call that a line says, if it says one, and appends what is printed for it.
-pub fn respond(
-    table: &mut [u64],
-    memory: &mut [u64],
-    said: Said,
-    out: &mut [u8],
-    filled: usize,
-) -> usize
+#[tactic(auto, unfolding(format::specs::Response::response, format::specs::Response::following, format::specs::Reply::wrong_reply))]
+pub fn respond(table: &mut [u64], memory: &mut [u64], said: Option<Call>, out: &mut Buffer<'_>)
     ensures memory_after { state table.new memory.new
         ≡ following (state table.old memory.old) (meant said) }
-    ensures result_after { buffer out.new result
-        ≡ appended (buffer out.old filled) (response (state table.old memory.old) (meant said)) }
+    ensures out_after { Appends out.old (response (state table.old memory.old) (meant said)) out.new }
 {
     match said {
-        Said::Says(call) => {
+        Some(call) => {
             let answer = step(table, memory, call);
-            append_reply(out, filled, call, answer)
+            append_reply(out, call, answer);
         }
-        Said::Wrong => append(out, filled, b"?\n"),
+        None => out.append(b"?\n"),
     }
 }

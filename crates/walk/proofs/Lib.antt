@@ -1,2 +1,2 @@
--- A walk behind a chain of checks.
-pub mod GateLaws
+-- A walk behind checks.
+pub mod CheckLaws

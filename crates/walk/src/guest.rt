@@ -1,14 +1,27 @@
 // The guest's walk: a virtual address through its tables, each of which is reached through the host's, and so is the page at the end.
 ghost use Rattle.std.specs.Prelude.{◌≡◌, true};
-ghost use Rattle.rules.specs.State.{state};
-ghost use Rattle.paging.specs.Walk.{onward, follow, look, virtual, walked};
-ghost use Rattle.walk.specs.Walked.{pointed, mapped};
+ghost use Rattle.paging.specs.Walk.{onward, follow, look, walked};
+ghost use Rattle.walk.specs.Walked.{pointed, mapped, virtual_of};
 
-use crate::entry::{Pointed, Pointer, follow};
+use crate::entry::{Pointer, follow, index_at};
 use crate::host::host_half;
-use crate::read::{Seen, guest_look};
-use checks::answer::Refusal;
+use crate::read::look;
+use checks::refusal::Refusal;
+use checks::state::State;
 
+// How a guest names a virtual address: its number, the root of its tables with the type, the host's root, and the address. (The host's
+// root comes before the root's type, so that an exported function, which gets root, type, host's root and address on the stack in this
+// order, hands no two neighbours on: copied in one piece, they cost a walk 15 ns.)
+#[derive(Clone, Copy)]
+pub struct Virtual {
+    pub caller: u64,
+    pub root: u64,
+    pub host_root: u64,
+    pub root_type: u64,
+    pub va: u64,
+}
+
+// Where it leads.
 #[derive(Clone, Copy)]
 pub struct Mapping {
     pub gpa: u64,
@@ -17,82 +30,55 @@ pub struct Mapping {
     pub ntype: u64,
 }
 
-// What the walk yields.
-#[derive(Clone, Copy)]
-pub enum Mapped {
-    To(Mapping),
-    Stops(Refusal),
-}
-
 // One level down from the table at a guest address, which lies in this frame.
+#[inline(always)]
 fn guest_down(
-    table: &[u64],
-    memory: &[u64],
+    state: &State<'_>,
     caller: u64,
     level: u64,
     index: u64,
     from: Pointer,
     frame: Pointer,
-) -> Pointed
+) -> Result<Pointer, Refusal>
     ensures { pointed result
-        ≡ onward (look (state table.now memory.now)
-        caller from.address frame.address from.kind frame.kind index)
+        ≡ onward (look state.now caller from.address frame.address from.kind frame.kind index)
         (λ w. follow level true w) }
 {
-    let seen = guest_look(
-        table,
-        memory,
+    let word = look(
+        state,
         caller,
         from.address,
         frame.address,
         from.kind,
         frame.kind,
         index,
-    );
-    match seen {
-        Seen::Word(word) => follow(level, true, word),
-        Seen::Refused(refusal) => Pointed::Stops(refusal),
-    }
+    )?;
+    follow(level, true, word)
 }
 
-// `rest` has the indexes that are still to come, the next one on top.
-pub fn walk(
-    table: &[u64],
-    memory: &[u64],
-    caller: u64,
-    root: u64,
-    root_type: u64,
-    host_root: u64,
-    va: u64,
-) -> Mapped
-    ensures { mapped result
-        ≡ walked (state table.now memory.now) (virtual caller root root_type host_root va) }
+// Four levels down, and then the frame of the page.
+#[inline(always)]
+pub fn walk(state: &State<'_>, at: &Virtual) -> Result<Mapping, Refusal>
+    ensures { mapped result ≡ walked state.now (virtual_of at.now) }
 {
-    let mut level = 4u64;
-    let mut rest = va / 4096 % 0x1000000000;
-    let mut at = Pointer {
-        address: root,
-        kind: root_type,
+    let page = at.va / 4096;
+    let mut from = Pointer {
+        address: at.root,
+        kind: at.root_type,
     };
+    // By a `for` over the levels, and the page's frame after it, the host's walk stands here twice: that took a tenth longer.
+    let mut level = 4;
     loop {
-        let frame = match host_half(table, memory, host_root, at.address) {
-            Pointed::To(frame) => frame,
-            Pointed::Stops(refusal) => return Mapped::Stops(refusal),
-        };
+        let frame = host_half(state, at.host_root, from.address)?;
         if level == 0 {
-            return Mapped::To(Mapping {
-                gpa: at.address,
+            return Ok(Mapping {
+                gpa: from.address,
                 hpa: frame.address,
-                gtype: at.kind,
+                gtype: from.kind,
                 ntype: frame.kind,
             });
         }
         level -= 1;
-        let below = guest_down(table, memory, caller, level, rest / 0x8000000, at, frame);
-        at = match below {
-            Pointed::To(to) => to,
-            Pointed::Stops(refusal) => return Mapped::Stops(refusal),
-        };
-        rest = rest % 0x8000000 * 512;
+        from = guest_down(state, at.caller, level, index_at(level, page), from, frame)?;
     }
 }

@@ -1,72 +1,52 @@
 -- Choices and joined tests: what a test that passed tells, comparisons taken apart, and a choice behind two bounds.
 -- Assumes nothing.
-use mathlib.Core.Path.{◌≡◌, refl, ◌∙◌}
-use mathlib.Core.Bool.{Bool, true, false, false≢true}
-use mathlib.Core.Logic.{◌≢◌, ◌⊎◌, inl, inr, ⊎_elim}
-use Prim.Native.Nat.{ℕ, ◌≤◌, ◌<◌}
-use native.Mathlib.Decide.{dec_lt, ℕ_discrete}
-use native.Mathlib.Omega.{arith}
-use lib.Dec.{ltb}
-use borrow.Author.Tests.{lt-ltb, le-ltb}
+pub use Rattle.std.proofs.lemmas.Bool.{cases_lt as lt_or_le, cases_eq as same_or_not, cases_Bool as true_or_false}
+use Rattle.std.proofs.Common.{◌≡◌, ◌∙◌, refl, Bool, true, false, ◌⊎◌, ⊎_elim, ℕ, ◌≤◌, ◌<◌, ltb, lt-ltb, le-ltb}
+use Rattle.std.proofs.lemmas.Bool as Tests
+use Rattle.std.proofs.lemmas.Bool.{and_parts, and_from, cond-true, cond-false, cond_both}
 use Rattle.words.specs.Choice.{pick, ◌and◌, ◌or◌}
 
-pub lt_or_le : (a b : ℕ) → (a < b) ⊎ (b ≤ a)
-lt_or_le a b = elim (dec_lt a b) [ yes h ↦ inl h | no h ↦ inr (omega arith) ]
+module _ {A : Type 0} where
+  pub pick_true : {t : Bool} (a b : A) → t ≡ true → pick t a b ≡ a
+  unfolding pick
+  pick_true {t} a b = cond-true t a b
 
-pub same_or_not : (a b : ℕ) → (a ≡ b) ⊎ (a ≢ b)
-same_or_not a b = elim (ℕ_discrete a b) [ yes h ↦ inl h | no h ↦ inr h ]
+  pub pick_false : {t : Bool} (a b : A) → t ≡ false → pick t a b ≡ b
+  unfolding pick
+  pick_false {t} a b = cond-false t a b
 
-pub true_or_false : (t : Bool) → (t ≡ true) ⊎ (t ≡ false)
-true_or_false true = inl refl
-true_or_false false = inr refl
+  -- what holds of both holds of the choice
+  pub pick_either : (P : A → Type 0) (t : Bool) (a b : A) → (t ≡ true → P a) → (t ≡ false → P b) → P (pick t a b)
+  unfolding pick
+  pick_either P t a b = cond_both t a b P
 
-pub pick_true : {A : Type 0} {t : Bool} (a b : A) → t ≡ true → pick t a b ≡ a
-unfolding pick
-pick_true a b e = rw e
-
-pub pick_false : {A : Type 0} {t : Bool} (a b : A) → t ≡ false → pick t a b ≡ b
-unfolding pick
-pick_false a b e = rw e
-
--- what holds of both holds of the choice
-pub pick_either : {A : Type 0} (P : A → Type 0) (t : Bool) (a b : A) → (t ≡ true → P a) → (t ≡ false → P b) → P (pick t a b)
-pick_either P true a b f g = rw (pick_true a b refl) (f refl)
-pick_either P false a b f g = rw (pick_false a b refl) (g refl)
-
-pub pick_same : {A : Type 0} (t : Bool) (a : A) → pick t a a ≡ a
-pick_same true a = pick_true _ _ refl
-pick_same false a = pick_false _ _ refl
+  pub pick_same : (t : Bool) (a : A) → pick t a a ≡ a
+  pick_same t a = pick_either (λ (x : A). x ≡ a) t a a (λ e. refl) (λ e. refl)
 
 module _ (s t : Bool) where
   pub and_left : s and t ≡ true → s ≡ true
   unfolding ◌and◌
-  and_left = elim s as (λ k. k and t ≡ true → k ≡ true) [ true ↦ λ e. refl | false ↦ λ e. e ]
+  and_left e = (and_parts s t e).0
 
   pub and_right : s and t ≡ true → t ≡ true
   unfolding ◌and◌
-  and_right = elim s as (λ k. k and t ≡ true → t ≡ true) [ true ↦ λ e. e | false ↦ λ e. absurd (false≢true e) ]
+  and_right e = (and_parts s t e).1
 
   pub both_true : s ≡ true → t ≡ true → s and t ≡ true
   unfolding ◌and◌
-  both_true h k = rw (h, k)
-
-  pub and_holds : t ≡ true → s and t ≡ s
-  unfolding ◌and◌
-  and_holds h = elim s as (λ k. k and t ≡ k) [ true ↦ h | false ↦ refl ]
+  both_true = and_from s t
 
   pub and_not : t ≡ false → s and t ≡ false
   unfolding ◌and◌
-  and_not h = elim s as (λ k. k and t ≡ false) [ true ↦ h | false ↦ refl ]
+  and_not = Tests.and_right s t
 
   pub or_cases : s or t ≡ true → (s ≡ true) ⊎ (t ≡ true)
   unfolding ◌or◌
-  or_cases =
-      elim s as (λ k. k or t ≡ true → (k ≡ true) ⊎ (t ≡ true)) [ true ↦ λ e. inl refl | false ↦ λ e. inr e ]
+  or_cases = Tests.or_cases s t
 
 pub or_true : (t : Bool) → t or true ≡ true
 unfolding ◌or◌
-or_true true = refl
-or_true false = refl
+or_true t = Tests.or_right t true refl
 
 -- a choice behind two bounds: both are kept, or one is not
 module _ {A : Type 0} (a b c d : ℕ) (x y : A) where

@@ -1,22 +1,13 @@
--- Two runs compared: how many words differ, word by word and a row of four at a time; no more differ than there are; and where none
--- differs, the runs agree at every place, and else they do not. For runs of any length.
+-- Two runs compared: how many words differ, word by word, and with the words counted that are the same; no more differ than there are; and
+-- where none differs, the runs agree at every place, and else they do not. For runs of any length.
 -- Assumes nothing.
-use mathlib.Core.Path.{◌≡◌, refl, sym, ◌∙◌}
-use mathlib.Core.Bool.{Bool, true, false}
-use mathlib.Core.List.{List}
-use mathlib.Core.Logic.{◌⊎◌, inl, inr}
-use Prim.Native.Nat.{ℕ, zero, suc, ◌+◌, ◌≤◌, ◌<◌}
-use native.Mathlib.Nat.{add-zero}
-use native.Mathlib.Numerals.{add-one}
-use native.Mathlib.Omega.{arith}
-use lib.Dec.{eqb}
-use lib.ListN.{get_or}
-use borrow.Author.Tests.{eqb-true, eq-eqb, ne_eqb}
+use Rattle.std.proofs.Common.{◌≡◌, refl, sym, ◌∙◌, Bool, true, false, List, ◌⊎◌, inl, inr, ℕ, zero, suc, ◌+◌, ◌≤◌, ◌<◌, length, set, sum, add-zero, add-one, arith, ◌&&◌, eqb, get_or, eqb-true, eq-eqb, ne_eqb}
+use Rattle.std.specs.Int.{from_bool}
+use Rattle.std.proofs.Math.Bool.{and-true, and-false}
+use Rattle.std.proofs.lemmas.List.Sums.{sum_by-set}
 use Rattle.words.specs.Choice.{pick, ◌and◌}
-use Rattle.words.specs.Rows.{same_at, total}
 use Rattle.words.specs.Run.{differing}
-use Rattle.words.specs.declared.compare.Same.{Same}
-use Rattle.words.proofs.ChoiceLaws.{lt_or_le, and_holds, and_not}
+use Rattle.words.proofs.ChoiceLaws.{lt_or_le, pick_either}
 
 -- none of no words differ, and the next word differs or not
 pub differing_none : (a b : List ℕ) → differing a b 0 ≡ 0
@@ -31,37 +22,28 @@ pub differing_more : (a b : List ℕ) (n : ℕ) → (get_or a n 0 ≡ get_or b n
 unfolding differing pick
 differing_more a b n e = rw (add-one n, ne_eqb _ _ e)
 
--- the next word is the same, or differs
-next : (a b : List ℕ) (n m : ℕ) → m ≡ n + 1 → same_at a b n + differing a b m ≡ differing a b n + 1
+-- a word more is counted in a column where it is the same, and else differs
+pub word_counted :
+    (a b same : List ℕ) (n j bit : ℕ) → j < length same → bit ≡ from_bool (eqb (get_or a n 0) (get_or b n 0))
+    → sum same + differing a b n ≡ n → sum (set same j (get_or same j 0 + bit)) + differing a b (n + 1) ≡ n + 1
 unfolding differing pick
-next a b n m e = rw (e, add-one n) (go (eqb (get_or a n 0) (get_or b n 0)))
+word_counted a b same n j bit inside is counted = rw add-one (go (eqb (get_or a n 0) (get_or b n 0)) is)
   where
-    go : (t : Bool) → pick t 1 0 + (differing a b n + pick t 0 1) ≡ differing a b n + 1
-    go true = omega arith
-    go false = omega arith
+    put : sum (set same j (get_or same j 0 + bit)) + get_or same j 0 ≡ sum same + (get_or same j 0 + bit)
+    put = sum_by-set (λ x. x) same j (get_or same j 0 + bit) 0 inside
 
--- where the columns count the words that are the same among the first n, they do so with the next four
-pub row_counted :
-    (a b : List ℕ) (n m : ℕ) (before after : Same) → m ≡ n + 4 → total before + differing a b n ≡ n
-    → (after.a ≡ before.a + same_at a b n) × (after.b ≡ before.b + same_at a b (n + 1))
-    × (after.c ≡ before.c + same_at a b (n + 2)) × (after.d ≡ before.d + same_at a b (n + 3))
-    → total after + differing a b m ≡ m
-row_counted a b n m before after e counted row =
-    let one = next a b n (n + 1) refl in
-    let two = next a b (n + 1) (n + 2) (omega arith) in
-    let three = next a b (n + 2) (n + 3) (omega arith) in
-    let four = next a b (n + 3) m (omega arith) in
-    omega (arith, row.0, row.1, row.2, row.3, one, two, three, four)
+    go : (t : Bool) → bit ≡ from_bool t → sum (set same j (get_or same j 0 + bit)) + (differing a b n + pick t 0 1) ≡ suc n
+    go true e = omega (arith, put)
+    go false e = omega (arith, put)
 
 -- no more words differ than there are
 pub differing_most : (a b : List ℕ) (n : ℕ) → differing a b n ≤ n
-unfolding differing pick
+unfolding differing
 differing_most a b zero = omega arith
-differing_most a b (suc n) = go (eqb (get_or a n 0) (get_or b n 0)) (differing_most a b n)
-  where
-    go : (t : Bool) → differing a b n ≤ n → differing a b n + pick t 0 1 ≤ suc n
-    go true h = omega arith
-    go false h = omega arith
+differing_most a b (suc n) =
+    pick_either (λ (k : ℕ). differing a b n + k ≤ suc n) (eqb (get_or a n 0) (get_or b n 0)) 0 1
+    (λ same. omega (arith, differing_most a b n))
+    (λ other. omega (arith, differing_most a b n))
 
 -- two runs with no differing word among the first n agree at every place below n
 pub none_differ : (a b : List ℕ) (n : ℕ) → differing a b n ≡ 0 → (k : ℕ) → k < n → get_or a k 0 ≡ get_or b k 0
@@ -79,9 +61,9 @@ none_differ a b (suc n) e k h = go (eqb (get_or a n 0) (get_or b n 0)) refl e (n
 -- no word differs among one more where none did, and that one is the same
 pub none_of_next :
     (a b : List ℕ) (n : ℕ) → eqb (differing a b (suc n)) 0 ≡ eqb (differing a b n) 0 and eqb (get_or a n 0) (get_or b n 0)
-unfolding differing pick
+unfolding differing pick ◌and◌
 none_of_next a b n = go (eqb (get_or a n 0) (get_or b n 0)) (differing a b n)
   where
-    go : (t : Bool) (d : ℕ) → eqb (d + pick t 0 1) 0 ≡ eqb d 0 and t
-    go true d = rw (add-zero d) (sym (and_holds _ _ refl))
-    go false d = ne_eqb (d + 1) 0 (λ e. omega arith) ∙ sym (and_not _ _ refl)
+    go : (t : Bool) (d : ℕ) → eqb (d + pick t 0 1) 0 ≡ eqb d 0 && t
+    go true d = rw (add-zero d, and-true)
+    go false d = ne_eqb (d + 1) 0 (λ e. omega arith) ∙ sym (and-false (eqb d 0))

@@ -1,28 +1,23 @@
--- `census::census` meets its contract: a shut gate is the rule's refusal, and past an open one the rule is what is done.
+-- `census::census` meets its contract: each exit is a case of the rule.
 use Rattle.rules.specs.Answers.{settle}
 use Rattle.rules.specs.Census.{census, reported}
-use Rattle.rules.specs.State.{N}
-use Rattle.checks.specs.Gate.{past}
+use Rattle.checks.proofs.CallLaws.{err_is}
+use Rattle.checks.specs.Passed.{past}
 use Rattle.census.proofs.census.Goals as goal
 
-pub returns-in-Shut : goal.returns-in-Shut
-unfolding census settle past reported N
-returns-in-Shut c = rw (← c.begin_census-begun.ensures, c.in-Shut.is)
+pub returns-in_err-begin_census : goal.returns-in_err-begin_census
+unfolding census settle past
+returns-in_err-begin_census c = rw (← c.new-state.ensures, ← c.in_err-begin_census.ensures, err_is _ _ c.from_residual.ensures.1)
 
-pub returns-in-Total : goal.returns-in-Total
-unfolding census settle past reported N
-returns-in-Total c = rw (
-  ← c.begin_census-begun.ensures,
-  c.in_default.is,
-  ← c.count_places-counted.ensures,
-  c.in-Total.is,
+pub returns-in_err-places : goal.returns-in_err-places
+unfolding census settle past reported
+returns-in_err-places c = rw (
+  ← c.new-state.ensures,
+  ← c.in_ok-begin_census.ensures,
+  ← c.in_err-places.ensures,
+  err_is _ _ c.from_residual-in_err-places.ensures.1,
 )
 
-pub returns-in-Stopped : goal.returns-in-Stopped
-unfolding census settle past reported N
-returns-in-Stopped c = rw (
-  ← c.begin_census-begun.ensures,
-  c.in_default.is,
-  ← c.count_places-counted.ensures,
-  c.in-Stopped.is,
-)
+pub returns : goal.returns
+unfolding census settle past reported
+returns c = rw (← c.new-state.ensures, ← c.in_ok-begin_census.ensures, ← c.in_ok-places.ensures)

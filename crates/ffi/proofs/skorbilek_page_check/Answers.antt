@@ -3,10 +3,6 @@ use Rattle.requests.specs.Requests.{respond}
 use Rattle.flat.proofs.Carried.{carried}
 use Rattle.ffi.proofs.skorbilek_page_check.Goals as goal
 
-pub returns-clause-memory_value : goal.returns-clause-memory_value
+pub returns : goal.returns
 unfolding respond
-returns-clause-memory_value c = (carried c.page_check.ensures.memory_value c.flatten.ensures).0
-
-pub returns-clause-ruled : goal.returns-clause-ruled
-unfolding respond
-returns-clause-ruled c = (carried c.page_check.ensures.memory_value c.flatten.ensures).1
+returns c = let both = carried c.page_check.ensures.memory_value c.from.ensures in record { memory_value = both.0; ruled = both.1 }

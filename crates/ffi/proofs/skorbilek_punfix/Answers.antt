@@ -4,10 +4,6 @@ use Rattle.requests.specs.Requests.{respond}
 use Rattle.flat.proofs.Carried.{carried}
 use Rattle.ffi.proofs.skorbilek_punfix.Goals as goal
 
-pub returns-clause-memory_after : goal.returns-clause-memory_after
+pub returns : goal.returns
 unfolding respond step
-returns-clause-memory_after c = (carried c.punfix.ensures c.flatten.ensures).0
-
-pub returns-clause-ruled : goal.returns-clause-ruled
-unfolding respond step
-returns-clause-ruled c = (carried c.punfix.ensures c.flatten.ensures).1
+returns c = let both = carried c.punfix.ensures c.from.ensures in record { memory_after = both.0; ruled = both.1 }

@@ -4,10 +4,6 @@ use Rattle.requests.specs.Requests.{respond}
 use Rattle.flat.proofs.Carried.{carried}
 use Rattle.ffi.proofs.skorbilek_read.Goals as goal
 
-pub returns-clause-memory_value : goal.returns-clause-memory_value
+pub returns : goal.returns
 unfolding respond step
-returns-clause-memory_value c = (carried c.read.ensures c.flatten.ensures).0
-
-pub returns-clause-ruled : goal.returns-clause-ruled
-unfolding respond step
-returns-clause-ruled c = (carried c.read.ensures c.flatten.ensures).1
+returns c = let both = carried c.read.ensures c.from.ensures in record { memory_value = both.0; ruled = both.1 }

@@ -4,10 +4,9 @@ use Rattle.requests.specs.Requests.{respond}
 use Rattle.flat.proofs.Named.{carried_mapping}
 use Rattle.ffi_va.proofs.skorbilek_walk.Goals as goal
 
-pub returns-clause-value : goal.returns-clause-value
+pub returns : goal.returns
 unfolding respond
-returns-clause-value c = (carried_mapping c.translate.result (state c.args.table.now c.args.memory.now) c.translate.ensures c.flatten_mapping.ensures).0
-
-pub returns-clause-ruled : goal.returns-clause-ruled
-unfolding respond
-returns-clause-ruled c = (carried_mapping c.translate.result (state c.args.table.now c.args.memory.now) c.translate.ensures c.flatten_mapping.ensures).1
+returns c = let both = carried_mapping c.translate.result (state c.args.table.now c.args.memory.now) c.translate.ensures c.from.ensures in record {
+  value = both.0;
+  ruled = both.1;
+}

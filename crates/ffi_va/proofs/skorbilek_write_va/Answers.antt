@@ -6,18 +6,16 @@ use Rattle.requests.specs.Virtual.{form_fits, call_on}
 use Rattle.flat.proofs.Named.{carried_named, carried_stop}
 use Rattle.ffi_va.proofs.skorbilek_write_va.Goals as goal
 
-pub returns-in-To-clause-memory_after : goal.returns-in-To-clause-memory_after
+pub returns-in-Ok : goal.returns-in-Ok
 unfolding respond by_virtual form_fits call_on step
-returns-in-To-clause-memory_after c = rw (← c.translate-found.ensures, c.in-To.is) (carried_named _ c.write-answer.ensures c.flatten.ensures c.name.ensures).0
+returns-in-Ok c = let both = carried_named _ c.write-answer.ensures c.from.ensures c.name.ensures in record {
+  memory_after = rw (← c.translate.ensures, c.in-Ok.is) both.0;
+  ruled = rw (← c.translate.ensures, c.in-Ok.is) both.1;
+}
 
-pub returns-in-To-clause-ruled : goal.returns-in-To-clause-ruled
-unfolding respond by_virtual form_fits call_on step
-returns-in-To-clause-ruled c = rw (← c.translate-found.ensures, c.in-To.is) (carried_named _ c.write-answer.ensures c.flatten.ensures c.name.ensures).1
-
-pub returns-in-Stops-clause-memory_after : goal.returns-in-Stops-clause-memory_after
+pub returns-in-Err : goal.returns-in-Err
 unfolding respond by_virtual form_fits
-returns-in-Stops-clause-memory_after c = rw (← c.translate-found.ensures, c.in-Stops.is) (carried_stop c.in-Stops.refusal _ c.flatten-in-Stops.ensures).0
-
-pub returns-in-Stops-clause-ruled : goal.returns-in-Stops-clause-ruled
-unfolding respond by_virtual form_fits
-returns-in-Stops-clause-ruled c = rw (← c.translate-found.ensures, c.in-Stops.is) (carried_stop c.in-Stops.refusal _ c.flatten-in-Stops.ensures).1
+returns-in-Err c = let both = carried_stop c.in-Err.refusal _ c.from-in-Err.ensures in record {
+  memory_after = rw (← c.translate.ensures, c.in-Err.is) both.0;
+  ruled = rw (← c.translate.ensures, c.in-Err.is) both.1;
+}

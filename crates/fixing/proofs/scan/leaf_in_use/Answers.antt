@@ -1,22 +1,16 @@
--- `fixing::scan::leaf_in_use` meets its contract: no frame passed names the leaf, and one that does settles the answer.
-use mathlib.Core.Path.{◌≡◌, refl, sym}
-use native.Mathlib.Omega.{arith}
-use Rattle.rules.specs.Leaves.{leaf_in_use}
-use Rattle.fixing.proofs.ScanLaws.{in_use, still_unused}
+-- `fixing::scan::leaf_in_use` meets its contract: `any` over the frames is the rule's test, frame by frame.
+use Rattle.std.proofs.Common.{refl, ◌∙◌, rules, arith}
+use borrow.Author.Tests.{tests}
+use Rattle.std.proofs.lemmas.Iterator.{YieldsList-from_range}
+use Rattle.std.proofs.lemmas.Iterator.Search.{any_from_yields_List}
+use Rattle.rules.specs.Leaves.{names_leaf}
+use Rattle.rules.specs.State.{state, entry_at}
+use Rattle.fixing.proofs.ScanLaws.{any_names}
 use Rattle.fixing.proofs.scan.leaf_in_use.Goals as goal
 
-pub loop-frame-init : goal.loop-frame-init
-unfolding leaf_in_use
-loop-frame-init c = (omega arith, λ m. refl)
-
-pub returns-then-named : goal.returns-then-named
-returns-then-named c = λ m. in_use _ m _ _ _ (c.loop-frame.invariant.1 m) c.frame_names_leaf-named.ensures _ c.if-named.true
-    (omega (arith, c.covered-n.ensures))
-
-pub loop-frame-preserved : goal.loop-frame-preserved
-loop-frame-preserved c = let inv = c.loop-frame.invariant in
-    (omega arith, λ m. still_unused _ m _ _ _ (inv.1 m) c.frame_names_leaf-named.ensures c.if-named.false)
-
 pub returns : goal.returns
-returns c = let past_all : c.loop-frame.frame ≡ c.covered-n.result = omega arith in
-    λ m. rw (← c.covered-n.ensures, ← past_all) (sym (c.loop-frame.invariant.1 m))
+unfolding entry_at
+returns c = λ memory. let s = c.args.state.now in
+    rw (← c.covered.ensures)
+    (any_from_yields_List (λ k. names_leaf (entry_at s k) c.args.leaf) _ _ _ c.any.ensures.ran (YieldsList-from_range 0 c.covered.result c.covered.result refl (omega arith)) (λ x b q k. search (rules, tests))
+    ∙ any_names (state s.table memory) c.args.leaf c.covered.result)

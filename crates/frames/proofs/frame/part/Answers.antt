@@ -1,14 +1,11 @@
 -- `frames::frame::part` meets its contract: a frame that memory has is a part of it, and one that it does not have has no words.
-use mathlib.Core.Path.{sym}
-use native.Mathlib.Omega.{arith}
-use Rattle.frames.specs.Frame.{frame_count}
+use Rattle.std.proofs.Common.{sym, arith}
 use Rattle.frames.proofs.FrameLaws.{part_outside, lent_frame}
 use Rattle.frames.proofs.frame.part.Goals as goal
 
-pub returns-then-frame-memory : goal.returns-then-frame-memory
-unfolding frame_count
-returns-then-frame-memory c = lent_frame _ _ (omega arith)
+pub returns-then-frame-count : goal.returns-then-frame-count
+returns-then-frame-count c = let words = c.range-words.ensures in
+    lent_frame c.args.memory.now c.args.frame _ _ (omega arith) words.start words.end
 
 pub returns : goal.returns
-unfolding frame_count
 returns c = sym (part_outside _ _ (omega arith))

@@ -1,12 +1,10 @@
--- `lines::line::line_at` meets its contract: `find` gives where the line ends, and the part up to there is the line.
+-- `lines::line::line_at` meets its contract: `until` gives where the line ends, and the part up to there is the line.
 use mathlib.Core.Path.{sym}
 use mathlib.Core.List.{[]}
 use native.Mathlib.Omega.{arith}
-use Rattle.format.specs.Place.{line_at}
-use Rattle.format.specs.Text.{LF}
-use Rattle.format.proofs.UpTo.{up_to_within, up_to_part}
 use Rattle.format.proofs.PlaceLaws.{after_fed, after_last, no_line_past, stays_past}
 use Rattle.format.proofs.SaidLaws.{said_few}
+use Rattle.lines.proofs.Before.{long, within, line_is}
 use Rattle.lines.proofs.line.line_at.Goals as goal
 
 pub returns-then-at-text : goal.returns-then-at-text
@@ -16,19 +14,22 @@ returns-then-at-text c = let x = c.args in
 
 pub slice_bounds-parse-end : goal.slice_bounds-parse-end
 slice_bounds-parse-end c =
-    let within = up_to_within LF c.args.text.now c.args.at (omega arith) in
-    omega arith
+    let is = c.until-length.ensures in
+    let line = line_is c.args.text.now c.args.at _ (omega arith) is in
+    let n = long c.args.text.now c.args.at _ (omega arith) is in
+    rw line n
+
+pub overflow_add-end : goal.overflow_add-end
+overflow_add-end c = let inside = within c.args.text.now c.args.at _ (omega arith) c.until-length.ensures in omega arith
 
 pub returns-then-end-text : goal.returns-then-end-text
-unfolding line_at
 returns-then-end-text c = let x = c.args in
-    let found = c.find-end.ensures in
-    let line = up_to_part LF x.text.now x.at _ found in
-    (rw (← line) c.parse-said.ensures, rw (after_fed x.text.now x.at (omega arith)) (omega arith))
+    let is = c.until-length.ensures in
+    let n = long x.text.now x.at _ (omega arith) is in
+    (rw (c.parse-said.ensures, line_is x.text.now x.at _ (omega arith) is), rw (after_fed x.text.now x.at (omega arith)) (omega arith))
 
-pub returns : goal.returns
-unfolding line_at
-returns c = let x = c.args in
-    let found = c.find-end.ensures in
-    let line = up_to_part LF x.text.now x.at _ found in
-    (rw (← line) c.parse-said.ensures, rw (after_last x.text.now x.at (omega arith)) found)
+pub returns-else-end-text : goal.returns-else-end-text
+returns-else-end-text c = let x = c.args in
+    let is = c.until-length.ensures in
+    let n = long x.text.now x.at _ (omega arith) is in
+    (rw (c.parse-said.ensures, line_is x.text.now x.at _ (omega arith) is), rw (after_last x.text.now x.at (omega arith)) (omega arith))

@@ -1,14 +1,14 @@
 -- `lines::line::parse_numbers` meets its contract: the numbers taken so far, and the fields that are left, say what all the fields do.
 use mathlib.Core.Path.{◌≡◌}
-use Prim.Native.Nat.{◌-◌, ◌≤◌}
-use lib.ListN.{length, take, drop}
+use lib.ListN.{length, drop}
 use Rattle.format.specs.Line.{asks, fields}
 use Rattle.format.proofs.AskLaws.{asks_on}
 use Rattle.lines.proofs.line.parse_numbers.Given as goal
 
-abbrev pub invariant-loop-count : goal.invariant-loop-count
-invariant-loop-count l = (length l.values ≡ 7) × (l.count ≤ 7) × (l.at ≤ length l.rest)
-    × (asks l.letter (fields l.rest) ≡ asks_on l.letter (take l.count l.values) (fields (drop l.at l.rest)))
-
-abbrev pub decreases-loop-count : goal.decreases-loop-count
-decreases-loop-count l = 7 - l.count
+abbrev pub invariant-loop-field : goal.invariant-loop-field
+invariant-loop-field l = record {
+  can : (goal.iterator-loop-field).can_next l.field-iterator;
+  finite : (goal.iterator-loop-field).is_finite l.field-iterator;
+  taken : length l.values.items ≡ length l.yielded;
+  says : asks l.letter (fields l.rest) ≡ asks_on l.letter l.values.items (drop (length l.yielded) (fields l.rest));
+}

@@ -1,13 +1,13 @@
--- `merging::merge::pmerge` meets its contract: the rule is what its checks come to: a refusal, with nothing changed, or what is
--- then done.
+-- `merging::merge::pmerge` meets its contract: the rule is what its checks come to: a refusal, with nothing changed, or what is then done.
 use Rattle.rules.specs.Answers.{settle}
-use Rattle.checks.specs.Passed.{with_both_named}
+use Rattle.checks.proofs.CallLaws.{err_is}
+use Rattle.checks.specs.Passed.{passed}
 use Rattle.merging.proofs.merge.pmerge.Goals as goal
 
-pub returns-in-Refused : goal.returns-in-Refused
-unfolding with_both_named settle
-returns-in-Refused c = rw (c.check_merge.ensures, c.in-Refused.is)
+pub returns-in_err-one : goal.returns-in_err-one
+unfolding passed settle
+returns-in_err-one c = rw (← c.new.ensures, c.in_err-one.ensures, err_is _ _ c.from_residual.ensures.1)
 
-pub returns-in-Good : goal.returns-in-Good
-unfolding with_both_named settle
-returns-in-Good c = rw (c.check_merge.ensures, c.in-Good.is, ← c.frame_of.ensures, ← c.merge.ensures)
+pub returns : goal.returns
+unfolding passed settle
+returns c = rw (c.merge.ensures, ← c.new.ensures, c.in_ok-one.ensures, c.frame_of.ensures)

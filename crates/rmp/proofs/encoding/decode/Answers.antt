@@ -10,13 +10,13 @@ pub fields_fit-fits-requires : goal.fields_fit-fits-requires
 unfolding fields entry
 fields_fit-fits-requires c = rw c.fields-e.ensures (omega arith)
 
-pub returns-then-good : goal.returns-then-good
+pub returns-then-clear-fits : goal.returns-then-clear-fits
 unfolding decoded ◌and◌
-returns-then-good c = let fits = c.fields_fit-fits.ensures in
-    rw (← c.fields-e.ensures) (sym (all_hold _ _ _ (rw (fits.asid_value, fits.rest_value) at c.if-good.true)))
+returns-then-clear-fits c = let fits = c.fields_fit-fits.ensures in
+    rw (← c.fields-e.ensures) (sym (all_hold _ _ _ (rw (fits.asid_value, fits.rest_value) at c.if-clear-fits.true)))
 
 pub returns : goal.returns
 unfolding decoded ◌and◌
 returns c = let fits = c.fields_fit-fits.ensures in
     rw (← c.fields-e.ensures, c.first_broken.ensures, fits.asid_value, fits.flags_value)
-    (sym (one_broken _ _ _ (rw (fits.asid_value, fits.rest_value) at c.if-good.false)))
+    (sym (one_broken _ _ _ (rw (fits.asid_value, fits.rest_value) at c.if-clear-fits.false)))

@@ -5,13 +5,13 @@ use Rattle.rmp.proofs.ByType.{unowned_asid, unowned_flags, unowned_rest, owned_a
 use Rattle.rmp.proofs.ByType.{fixed_flags, fixed_rest}
 use Rattle.rmp.proofs.encoding.fields_fit.Goals as goal
 
-pub returns-then-fixed : goal.returns-then-fixed
+pub returns-then-e : goal.returns-then-e
 unfolding ◌and◌
-returns-then-fixed c = let guest = c.is_guest-asid.ensures in record { asid_value = guest ∙ sym (owned_asid _ (cc)); flags_value = sym (fixed_flags _ (cc) (cc)); rest_value = rw (c.frame_of.ensures, c.is_address.ensures) (sym (fixed_rest _ (cc) _ (cc))) }
+returns-then-e c = let guest = c.is_guest-asid.ensures in record { asid_value = guest ∙ sym (owned_asid _ (cc)); flags_value = sym (fixed_flags _ (cc) (cc)); rest_value = rw (c.frame_of.ensures, c.is_address.ensures) (sym (fixed_rest _ (cc) _ (cc))) }
 
-pub returns-then-owned : goal.returns-then-owned
+pub returns-then-is_owned : goal.returns-then-is_owned
 unfolding ◌and◌
-returns-then-owned c = let guest = c.is_guest-asid.ensures in record { asid_value = guest ∙ sym (owned_asid _ (cc)); flags_value = sym (unfixed_flags _ (cc) (cc)); rest_value = c.is_address-then-owned.ensures ∙ sym (unfixed_rest _ (cc) _ (cc)) }
+returns-then-is_owned c = let guest = c.is_guest-asid.ensures in record { asid_value = guest ∙ sym (owned_asid _ (cc)); flags_value = sym (unfixed_flags _ (cc) (cc)); rest_value = c.is_address-then-is_owned.ensures ∙ sym (unfixed_rest _ (cc) _ (cc)) }
 
 pub returns : goal.returns
 unfolding ◌and◌

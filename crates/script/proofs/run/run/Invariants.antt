@@ -1,18 +1,20 @@
--- `script::run::run` meets its contract: what was printed, with what the text from the place on prints, is what the whole text prints, and
--- so with table and memory. Each turn goes past a line.
+-- `script::run::run` meets its contract: what was printed, with what the lines that are left print, is what the whole text prints, and so
+-- with table and memory.
 use mathlib.Core.Path.{◌≡◌}
-use Prim.Native.Nat.{◌-◌, ◌≤◌}
-use lib.ListN.{length, drop}
 use Rattle.rules.specs.State.{state}
 use Rattle.format.specs.Text.{printed, after}
+use Rattle.format.proofs.ResponseLaws.{lines_print, lines_leave}
+use Rattle.lines.specs.Read.{left}
 use Rattle.numbers.specs.Buffer.{buffer, appended}
+use Rattle.numbers.specs.Held.{held, lent}
 use Rattle.script.proofs.run.run.Given as goal
 
-abbrev pub invariant-loop-at : goal.invariant-loop-at
-invariant-loop-at l = (length l.table ≡ length l.initial.table) × (length l.memory ≡ length l.initial.memory) × (length l.out ≡ length l.initial.out) × (l.at ≤ length l.text)
-    × (after (state l.table l.memory) (drop l.at l.text) ≡ after (state l.initial.table l.initial.memory) l.text)
-    × (appended (buffer l.out l.filled) (printed (state l.table l.memory) (drop l.at l.text))
-    ≡ appended (buffer l.initial.out 0) (printed (state l.initial.table l.initial.memory) l.text))
-
-abbrev pub decreases-loop-at : goal.decreases-loop-at
-decreases-loop-at l = length l.text - l.at
+abbrev pub invariant-loop-said : goal.invariant-loop-said
+invariant-loop-said l = record {
+  can : (goal.iterator-loop-said).can_next l.said-iterator;
+  finite : (goal.iterator-loop-said).is_finite l.said-iterator;
+  same_reference : (lent l.replies).ghost_name ≡ (lent l.initial.replies).ghost_name;
+  state_left : lines_leave (state l.table l.memory) (left l.said-iterator) ≡ after (state l.initial.table l.initial.memory) l.text;
+  out_left : appended (held l.replies) (lines_print (state l.table l.memory) (left l.said-iterator))
+      ≡ appended (buffer l.fn.out 0) (printed (state l.initial.table l.initial.memory) l.text);
+}

@@ -1,30 +1,41 @@
--- `walk::begin::translate` meets its contract: the walk goes on where the gate is open.
-use mathlib.Core.Path.{◌≡◌}
-use mathlib.Core.Bool.{Bool, not, ◌&&◌}
+-- `walk::begin::translate` meets its contract: the walk goes on where the checks passed.
 use Rattle.words.specs.Choice.{◌and◌}
-use Rattle.rules.specs.Answers.{Verdict, unless}
-use Rattle.rules.specs.Arguments.{is_host}
-use Rattle.rules.specs.Refusals.{GEOMETRY, ARGUMENT, CALLER}
-use Rattle.rules.specs.State.{State, sized}
-use Rattle.checks.specs.Gate.{past}
-use Rattle.checks.specs.declared.gate.Gate.{Gate}
-use Rattle.paging.specs.Walk.{Virtual, virtual_arguments, walked, translated}
-use Rattle.walk.proofs.GateLaws.{through, through_three}
+use Rattle.paging.specs.Walk.{translated}
+use Rattle.checks.proofs.CallLaws.{err_is}
+use Rattle.walk.proofs.CheckLaws.{through, ensured, through-and}
 use Rattle.walk.proofs.begin.translate.Goals as goal
 
--- the walk behind the gate
-behind :
-    (s : State) (at : Virtual) (arguments fits : Bool) (g : Gate) → arguments ≡ virtual_arguments at
-    → ((v : Verdict)
-    → past g v ≡ unless (sized s) GEOMETRY (unless (arguments && fits) ARGUMENT (unless (not (is_host at.caller)) CALLER v)))
-    → through (walked s at) g ≡ translated s at fits
-unfolding translated ◌and◌
-behind s at arguments fits g e checks = rw (← e) (through_three _ g _ _ _ _ _ _ checks)
-
-pub returns-in-Shut : goal.returns-in-Shut
-unfolding through
-returns-in-Shut c = rw (← behind _ _ _ _ _ c.virtual_arguments.ensures c.begun-begun.ensures, c.in-Shut.is)
+pub returns-in_err-and : goal.returns-in_err-and
+unfolding translated through ◌and◌
+returns-in_err-and c = rw (
+  err_is _ _ c.from_residual.ensures.1,
+  ← c.new-state.ensures,
+  ← c.sizes_hold.ensures,
+  ensured _ _ _ _ c.ensure.ensures,
+  ← c.virtual_arguments.ensures,
+  ensured _ _ _ _ c.ensure-2.ensures,
+  ← c.is_host.ensures,
+  ensured _ _ _ _ c.ensure-3.ensures,
+  ← through-and,
+  ← through-and,
+  ← c.and.ensures,
+  ← c.and-2.ensures,
+  c.in_err-and.was,
+)
 
 pub returns : goal.returns
-unfolding through
-returns c = rw (← behind _ _ _ _ _ c.virtual_arguments.ensures c.begun-begun.ensures, c.in_default.is) c.walk.ensures
+unfolding translated through ◌and◌
+returns c = rw (
+  ← c.new-state.ensures,
+  ← c.sizes_hold.ensures,
+  ensured _ _ _ _ c.ensure.ensures,
+  ← c.virtual_arguments.ensures,
+  ensured _ _ _ _ c.ensure-2.ensures,
+  ← c.is_host.ensures,
+  ensured _ _ _ _ c.ensure-3.ensures,
+  ← through-and,
+  ← through-and,
+  ← c.and.ensures,
+  ← c.and-2.ensures,
+  c.in_ok-and.was,
+) c.walk.ensures

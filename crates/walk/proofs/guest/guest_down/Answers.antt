@@ -1,11 +1,12 @@
 -- `walk::guest::guest_down` meets its contract: the entry is read, and followed, as the definition has it.
 use Rattle.paging.specs.Walk.{onward}
+use Rattle.checks.proofs.CallLaws.{err_is}
 use Rattle.walk.proofs.guest.guest_down.Goals as goal
 
-pub returns-in-Word : goal.returns-in-Word
+pub returns-in_err-word : goal.returns-in_err-word
 unfolding onward
-returns-in-Word c = rw (← c.guest_look-seen.ensures, c.in-Word.is) c.follow.ensures
+returns-in_err-word c = rw (err_is _ _ c.from_residual.ensures.1, ← c.look.ensures, c.in_err-word.was)
 
-pub returns-in-Refused : goal.returns-in-Refused
+pub returns : goal.returns
 unfolding onward
-returns-in-Refused c = rw (← c.guest_look-seen.ensures, c.in-Refused.is)
+returns c = rw (← c.look.ensures, c.in_ok-word.was) c.follow.ensures

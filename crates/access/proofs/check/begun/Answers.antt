@@ -1,5 +1,0 @@
--- `access::check::begun` meets its contract: the checks of `begin_access`, and one more after them.
-use Rattle.access.proofs.check.begun.Goals as goal
-
-pub returns : goal.returns
-returns c = λ v. rw (c.and_then.ensures, c.begin_access-begun.ensures)

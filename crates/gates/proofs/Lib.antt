@@ -1,0 +1,2 @@
+-- How the checks of a gate are put together.
+pub mod Chained

@@ -1,7 +1,0 @@
--- `gates::merge_needs_met` meets its contract: what the instruction's row of the table asks, cell by cell, is the rule's chain of
--- checks.
-use Rattle.needs.proofs.Rows.{merge_row}
-use Rattle.gates.proofs.merge_needs_met.Goals as goal
-
-pub returns : goal.returns
-returns c = λ v. rw (c.two_frames_met.ensures v, c.needs.ensures) (merge_row _ _ v)
