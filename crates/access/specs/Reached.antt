@@ -1,5 +1,5 @@
 -- The checks of an access in three parts: those that it begins with, those that tell which frame it reaches, and those of a guest's page.
--- These are the parts after the first, as the rule `access` has them. Only the laws of proofs/AccessLaws.antt speak of them.
+-- These are the parts after the first, as the rule `access` has them.
 use Rattle.std.specs.Prelude.{Bool, ℕ, eqb, Option, None, Some, Result, Ok, Err}
 use Rattle.words.specs.Choice.{pick}
 use Rattle.entries.specs.Entry.{Decoded, SHARED}

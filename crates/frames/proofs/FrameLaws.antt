@@ -8,11 +8,11 @@ use Rattle.std.proofs.lemmas.List.Edits.{sets, sets-eq, length-paste}
 use borrow.Rule.Slice.PartMut.{put_mid}
 use Rattle.std.proofs.lemmas.Slice.{put_mid-paste}
 use Rattle.words.specs.Choice.{◌and◌}
-use Rattle.words.specs.Run.{differing}
+use Rattle.words.specs.Run.{differing, copied}
 use Rattle.words.proofs.ChoiceLaws.{lt_or_le, same_or_not, pick_true, pick_false, and_not}
 use Rattle.words.proofs.ChoiceLaws.{bounds_kept, first_not, second_not, bounds_either}
 use Rattle.words.proofs.CompareLaws.{differing_most, none_differ}
-use Rattle.words.proofs.RunLaws.{paste_there, paste_before, paste_after}
+use Rattle.words.proofs.RunLaws.{paste_there, paste_before, paste_after, copied_whole}
 use Rattle.frames.specs.Frame.{frame_count, is_framed, word_in, frame_in, zeros, put_word, put_frame, differing_in}
 
 -- a frame that memory has is a whole run of it
@@ -213,6 +213,12 @@ module _ (m : List ℕ) (f s e : ℕ) (had : f < frame_count m) (start : s ≡ 5
   frame_back run back long is =
       let all : e - s ≡ 512 = omega arith in
       put_mid-paste s (e - s) m back run 512 is (omega arith) (sym long) ∙ rw start (sym (frame_put m f run had long))
+
+  -- 512 words laid over it
+  pub frame_laid :
+      (run last : List ℕ) → length run ≡ 512 → last ≡ copied (take (e - s) (drop s m)) run → put_mid s (e - s) m last ≡ put_frame m f run
+  frame_laid run last long laid =
+      frame_back run last long (laid ∙ rw lent_frame (copied_whole (frame_in m f) run (frame_long m f had ∙ sym long)))
 
 -- two frames compared
 module _ (m : List ℕ) (f g : ℕ) where

@@ -78,8 +78,8 @@ pub fn put(memory: &mut [u64], frame: usize, words: &[u64])
     if frame < count(memory) && words.len() == 512 {
         let range = range(memory, frame);
         let mut held = [0; 512];
-        held.copy_from_slice(words);
-        memory[range].copy_from_slice(&held);
+        run::copy(&mut held, words);
+        run::copy(&mut memory[range], &held);
     }
 }
 
@@ -91,8 +91,8 @@ pub fn copy(memory: &mut [u64], from: usize, to: usize)
         let from = range(memory, from);
         let to = range(memory, to);
         let mut held = [0; 512];
-        held.copy_from_slice(&memory[from]);
-        memory[to].copy_from_slice(&held);
+        run::copy(&mut held, &memory[from]);
+        run::copy(&mut memory[to], &held);
     }
 }
 

@@ -1,21 +1,23 @@
 // The script reader keeps the text and its place in it together. It is thin: `line_at`, which has a plain slice and a number, does the work.
 ghost use Rattle.std.specs.Prelude.{◌≡◌, drop};
 ghost use Rattle.format.specs.Text.{said_by};
-ghost use Rattle.lines.specs.Read.{meant, left};
+ghost use Rattle.lines.specs.Read.{meant, left, IsLineAt};
 
-use crate::line::line_at;
+use crate::line::{Line, line_at};
 use monitor::Call;
 
 // Its items are what the lines say, in their order: a call, or none, where a line is wrong.
-#[derive(Drop)]
+#[derive(Clone, Copy)]
 pub struct Reader<'a> {
-    text: &'a [u8],
-    at: usize,
+    pub text: &'a [u8],
+    pub at: usize,
 }
 
 impl<'a> Reader<'a> {
+    // A reader at a place of a text.
     pub fn at(text: &'a [u8], at: usize) -> Reader<'a>
-        ensures { left result ≡ said_by (drop at text.now) }
+        ensures placed { (result.text ≡ text.entry) × (result.at ≡ at) }
+        ensures lines { left result ≡ said_by (drop at text.now) }
     {
         Reader { text, at }
     }
@@ -24,6 +26,13 @@ impl<'a> Reader<'a> {
         ensures { left result ≡ said_by text.now }
     {
         Reader::at(text, 0)
+    }
+
+    // The line at the reader's place.
+    pub fn line(self) -> Line
+        ensures { IsLineAt self.entry.text.now self.entry.at result }
+    {
+        line_at(self.text, self.at)
     }
 }
 
@@ -41,7 +50,7 @@ impl<'a> Iterator for Reader<'a> {
         if self.at >= self.text.len() {
             return None;
         }
-        let line = line_at(self.text, self.at);
+        let line = self.line();
         self.at = line.next;
         Some(line.said)
     }

@@ -5,7 +5,7 @@
 
 ghost use Rattle.std.specs.Prelude.{◌≡◌};
 ghost use Rattle.rules.specs.Answers.{Verdict};
-ghost use Rattle.rules.specs.State.{state};
+ghost use Rattle.rules.specs.State.{state, covers};
 ghost use Rattle.requests.specs.Asked.{asked};
 ghost use Rattle.requests.specs.Pages.{shared_access, page_read, page_check, page_write};
 ghost use Rattle.requests.specs.Requests.{PAGE_READ, PAGE_WRITE, PAGE_CHECK, hands, response, telling};
@@ -13,7 +13,7 @@ ghost use Rattle.requests.specs.Run.{Ruled};
 ghost use Rattle.checks.specs.Answer.{gave};
 ghost use Rattle.checks.specs.Passed.{past};
 
-use access::check::{READING, WRITING, checked};
+use access::check::{READING, WRITING, allowed, begun, reach};
 use checks::answer::Answer;
 use checks::ensure::ensure;
 use checks::refusal::Refusal;
@@ -21,19 +21,23 @@ use checks::state::State;
 use entries::entry::{SHARED, frame_of};
 use frames::frame;
 
-// The checks of a SHARED access to word 0.
+// The checks of a SHARED access to word 0, in the three parts of an access. Each call asks whether the table covers the frame.
 #[inline(always)]
-#[tactic(auto, unfolding(requests::specs::Pages::shared_access))]
 fn shared_checked(
     state: &State<'_>,
     writes: bool,
     caller: u64,
     gpa: u64,
     hpa: u64,
+    covered: bool,
 ) -> Result<(), Refusal>
+    requires { covered ≡ covers state.now hpa }
     ensures { (v : Verdict) → past result v ≡ shared_access state.now writes caller gpa hpa v }
 {
-    checked(state, writes, caller, gpa, hpa, SHARED, SHARED, 0)
+    begun(state, caller, gpa, hpa, SHARED, SHARED, 0)?;
+    let here = state.shared_entry(frame_of(hpa));
+    let frame = reach(covered, here, writes, SHARED);
+    allowed(state, writes, caller, gpa, frame)
 }
 
 // Whether the page at `hpa` may be read.
@@ -51,7 +55,7 @@ pub fn page_check(
         (telling (gave result table.now memory.now))) }
 {
     let state = State::new(table, memory);
-    shared_checked(&state, READING, caller, gpa, hpa)?;
+    shared_checked(&state, READING, caller, gpa, hpa, state.covers(hpa))?;
     Ok(Answer::Done)
 }
 
@@ -63,7 +67,7 @@ pub fn page_read<'a>(table: &[u64], memory: &'a [u64], caller: u64, gpa: u64, hp
         (response (hands result.now) (state table.now memory.now))) }
 {
     let state = State::new(table, memory);
-    match shared_checked(&state, READING, caller, gpa, hpa) {
+    match shared_checked(&state, READING, caller, gpa, hpa, state.covers(hpa)) {
         Ok(()) => frame::part(memory, frame_of(hpa)),
         Err(_) => &memory[..0],
     }
@@ -87,7 +91,7 @@ pub fn page_write(
     let state = State::new(table, memory);
     ensure(state.sizes_hold(), Refusal::Geometry)?;
     ensure(words.len() == 512, Refusal::Argument)?;
-    shared_checked(&state, WRITING, caller, gpa, hpa)?;
+    shared_checked(&state, WRITING, caller, gpa, hpa, state.covers(hpa))?;
     frame::put(memory, frame_of(hpa), words);
     Ok(Answer::Done)
 }

@@ -54,6 +54,15 @@ module _ (s : State) (text out now : List ℕ) (count : ℕ) (enough : room text
       let fewer = length-take filled text in
       all_printed s (take filled text) out now count (omega arith) prints
 
+-- the unfinished line, by how many bytes were kept
+pub piece_keeps :
+    (text next : List ℕ) (filled held : ℕ) → buffer next held ≡ appended (buffer text 0) (unfinished (take filled text))
+    → take held next ≡ unfinished (take filled text)
+piece_keeps text next filled held keeps =
+    let fewer = length-take filled text in
+    let rest = (unfinished_most (take filled text)).0 in
+    all_appended text next (unfinished (take filled text)) held (omega arith) keeps
+
 module _ (text next : List ℕ) (filled held : ℕ) (keeps : buffer next held ≡ appended (buffer text 0) (unfinished (take filled text))) where
   pub all_kept : held ≡ length (unfinished (take filled text))
   all_kept =
@@ -63,19 +72,7 @@ module _ (text next : List ℕ) (filled held : ℕ) (keeps : buffer next held �
       omega arith
 
   pub piece_left : take (length (unfinished (take filled text))) next ≡ unfinished (take filled text)
-  piece_left =
-      let fewer = length-take filled text in
-      let rest = (unfinished_most (take filled text)).0 in
-      rw (← all_kept) (all_appended text next (unfinished (take filled text)) held (omega arith) keeps)
-
--- the unfinished line, by how many bytes were kept
-pub piece_keeps :
-    (text next : List ℕ) (filled held : ℕ) → buffer next held ≡ appended (buffer text 0) (unfinished (take filled text))
-    → take held next ≡ unfinished (take filled text)
-piece_keeps text next filled held keeps =
-    let fewer = length-take filled text in
-    let rest = (unfinished_most (take filled text)).0 in
-    all_appended text next (unfinished (take filled text)) held (omega arith) keeps
+  piece_left = rw (← all_kept) (piece_keeps text next filled held keeps)
 
 -- what holds of a piece, of which some bytes were read
 pub turned_piece :

@@ -1,16 +1,18 @@
--- `frames::frame::put` meets its contract: a frame that memory has comes back as the run, and nothing changes for a run of another length or
--- where memory does not have the frame.
-use Rattle.std.proofs.Common.{sym, ◌∙◌, arith}
-use Rattle.frames.proofs.FrameLaws.{frame_outside, frame_unlike, frame_back}
+-- `frames::frame::put` meets its contract: each of the two copies fills a run of 512 words, and nothing changes for a run of another length
+-- or where memory does not have the frame.
+use Rattle.std.proofs.Common.{◌≡◌, sym, ◌∙◌, length, arith}
+use Rattle.words.proofs.RunLaws.{copied_whole}
+use Rattle.frames.proofs.FrameLaws.{frame_outside, frame_unlike, frame_laid}
 use Rattle.frames.proofs.frame.put.Goals as goal
 use Rattle.frames.proofs.frame.put.Goals.{else-frame-count-via-then-frame-count+else-words-eq512, else-frame-count-via-else-frame-count}
 
 pub returns-then-words-eq512 : goal.returns-then-words-eq512
 returns-then-words-eq512 c = let range = c.range-range.ensures in
-    frame_back c.args.memory.now c.args.frame _ _ (omega arith) range.start range.end c.args.words.now
-    c.copy_from_slice-then-words-eq512.new.self
-    (omega arith)
-    (c.copy_from_slice-then-words-eq512.ensures.after ∙ c.copy_from_slice.ensures.after)
+    let words = c.args.words.now in
+    let long : length words ≡ 512 = omega arith in
+    let held : c.copy.new.target ≡ words = c.copy.ensures ∙ copied_whole _ words (sym long) in
+    frame_laid c.args.memory.now c.args.frame _ _ (omega arith) range.start range.end words _ long
+    (c.copy-then-words-eq512.ensures ∙ rw held)
 
 pub returns-else-frame-count : goal.returns-else-frame-count
 returns-else-frame-count c =

@@ -1,10 +1,11 @@
 -- `merging::unmerge::check_unmerge` meets its contract: each exit is a case of the rule, with entry 2 made of entry 1 (`moves`).
-use mathlib.Core.Path.{sym, ap}
+use mathlib.Core.Path.{refl, sym, ap}
+use Rattle.std.specs.Prelude.{Ok}
 use Rattle.entries.specs.Entry.{frame_of}
 use Rattle.rules.specs.Answers.{settle}
 use Rattle.rules.specs.Merging.{punmerge}
 use Rattle.checks.proofs.CallLaws.{two_entered, two_refused}
-use Rattle.checks.proofs.NamedLaws.{first_of_both}
+use Rattle.checks.proofs.NamedLaws.{first_entry}
 use Rattle.checks.proofs.PassedLaws.{refuses, stops}
 use Rattle.checks.specs.Passed.{passed, past}
 use Rattle.merging.proofs.MovedLaws.{moves}
@@ -41,7 +42,7 @@ returns-in_err-gpa c = rw (
 pub returns : goal.returns
 unfolding punmerge past passed
 returns c =
-    let here = first_of_both _ _ _ (sym c.in_ok-one.ensures) in
+    let here = first_entry (Ok tt) _ _ refl refl _ (sym c.in_ok-one.ensures) in
     rw (
       two_entered c.in_ok-begin_unmerge.ensures _ _ c.in_ok-one.ensures,
       moves c.args.state.now _ _ (frame_of c.args.hpa2) c.args.asid here,
