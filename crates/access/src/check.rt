@@ -27,7 +27,7 @@ pub const READING: bool = false;
 
 pub const WRITING: bool = true;
 
-// All of them. (The numbers stay parameters, as C's functions and the rules have them: a struct would be built at each of the calls, and
+// The three parts together. (The numbers stay parameters, as C's functions and the rules have them: a struct would be built at each of the calls, and
 // taken apart in each check.)
 #[inline(always)]
 pub fn checked(
@@ -116,6 +116,7 @@ pub fn reach(
     Ok(None)
 }
 
+// Of a covered frame.
 #[inline(always)]
 #[tactic(auto, unfolding(crate::specs::Reached::reached, crate::specs::Reached::covered_reached, rules::specs::Answers::entered, rules::specs::Answers::unless, checks::specs::Passed::past, words::specs::Choice::pick))]
 fn reach_covered(

@@ -39,7 +39,7 @@ fn count_places(state: &State<'_>, guest: u64) -> Result<u64, Refusal>
 }
 
 // A frame's place of a guest: its address, where there is one.
-#[tactic(auto, using(crate::proofs::HoldingLaws::held_then_some), unfolding(rules::specs::Census::holding, rules::specs::Census::in_entry, words::specs::Choice::pick))]
+#[tactic(auto, unfolding(rules::specs::Census::holding, rules::specs::Census::in_entry, words::specs::Choice::pick))]
 fn holding_at(state: &State<'_>, guest: u64, frame: usize) -> Result<Option<u64>, Refusal>
     ensures { held result ≡ holding state.now guest frame }
 {

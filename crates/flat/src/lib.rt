@@ -1,7 +1,7 @@
 // An answer as a struct of numbers, which C can take.
 #![tactic(auto)]
 
-ghost use Rattle.std.specs.Prelude.{◌≡◌};
+ghost use Rattle.std.specs.Prelude.{◌≡◌, Ok};
 ghost use Rattle.checks.specs.Answer.{told};
 ghost use Rattle.flat.specs.Flat.{flat};
 
@@ -46,41 +46,53 @@ impl From<Result<Answer, Refusal>> for Flat {
 
     #[tactic(auto, unfolding(crate::specs::Flat::flat))]
     fn from(answer: Result<Answer, Refusal>) -> Flat {
-        let none = Flat::default();
         match answer {
+            Ok(answer) => Flat::accepted(answer),
             Err(refusal) => Flat {
                 refusal: refusal.number(),
                 kind: REFUSED,
                 reason: refusal.reason(),
-                ..none
+                ..Flat::default()
             },
-            Ok(Answer::Done) => Flat { kind: DONE, ..none },
-            Ok(Answer::None) => Flat { kind: NONE, ..none },
-            Ok(Answer::Closed { asid, gpa }) => Flat {
+        }
+    }
+}
+
+impl Flat {
+    // Of a call that is not refused.
+    #[tactic(auto, unfolding(crate::specs::Flat::flat))]
+    fn accepted(answer: Answer) -> Flat
+        ensures { result ≡ flat (told (Ok answer)) }
+    {
+        let none = Flat::default();
+        match answer {
+            Answer::Done => Flat { kind: DONE, ..none },
+            Answer::None => Flat { kind: NONE, ..none },
+            Answer::Closed { asid, gpa } => Flat {
                 kind: CLOSED,
                 asid,
                 gpa,
                 ..none
             },
-            Ok(Answer::Opened) => Flat {
+            Answer::Opened => Flat {
                 kind: OPENED,
                 ..none
             },
-            Ok(Answer::Already) => Flat {
+            Answer::Already => Flat {
                 kind: ALREADY,
                 ..none
             },
-            Ok(Answer::Unfixed(owner)) => Flat {
+            Answer::Unfixed(owner) => Flat {
                 kind: UNFIXED,
                 asid: owner,
                 ..none
             },
-            Ok(Answer::Word(value)) => Flat {
+            Answer::Word(value) => Flat {
                 kind: WORD,
                 value,
                 ..none
             },
-            Ok(Answer::Count(value)) => Flat {
+            Answer::Count(value) => Flat {
                 kind: COUNT,
                 value,
                 ..none

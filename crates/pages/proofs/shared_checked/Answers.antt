@@ -1,19 +1,16 @@
 -- `pages::shared_checked` meets its contract: a refusal of the first part is the rule's, and past it the rule is the other two.
-use Rattle.std.proofs.Common.{refl, sym, ◌∙◌}
-use Rattle.rules.specs.State.{N, covers, entry_at}
+use Rattle.std.proofs.Common.{refl, ◌∙◌}
 use Rattle.requests.specs.Pages.{shared_access}
-use Rattle.checks.specs.Passed.{past}
-use Rattle.checks.proofs.CallLaws.{err_is}
-use Rattle.access.proofs.AccessLaws.{access_parts, access_checked}
+use Rattle.access.proofs.AccessLaws.{access_stops, access_passes}
 use Rattle.pages.proofs.shared_checked.Goals as goal
 
 pub returns-in_err-begun : goal.returns-in_err-begun
-unfolding past shared_access
-returns-in_err-begun c = let s = c.args.state.now in
-    λ v. rw (err_is _ _ c.from_residual.ensures.1)
-    (sym (access_parts s.table s.memory _ _ _ _ _ _ _ v ∙ sym (c.begun.ensures _) ∙ rw c.in_err-begun.was refl))
+unfolding shared_access
+returns-in_err-begun c = access_stops _ _ _ _ _ _ _ _ _ c.begun.ensures _ c.from_residual.ensures.1 c.in_err-begun.was
 
 pub returns : goal.returns
-unfolding past shared_access covers entry_at N
-returns c = let s = c.args.state.now in
-    λ v. sym (access_checked s.table s.memory _ _ _ _ _ _ _ _ _ _ _ _ _ c.begun.ensures c.frame_of.ensures c.shared_entry-here.ensures c.requires c.reach-frame.ensures c.allowed.ensures v ∙ rw c.in_ok-begun.was refl)
+unfolding shared_access
+returns c =
+    access_passes _ _ _ _ _ _ _ _ _ c.begun.ensures _ _
+    (λ v page. c.reach-frame.ensures v page ∙ rw (c.requires, c.shared_entry-here.ensures, c.frame_of.ensures) refl)
+    c.allowed.ensures c.in_ok-begun.was
